@@ -1,0 +1,8 @@
+pub mod Bits
+pub mod Frame
+pub mod Wire
+pub mod Dominance
+pub mod FrameText
+pub mod FrameReading
+pub mod FrameReadingLaws
+pub mod WireValues
