@@ -1,0 +1,9 @@
+pub mod Line
+pub mod Bus
+pub mod Start
+pub mod Finish
+pub mod Submit
+pub mod Due
+pub mod History
+pub mod HistorySteps
+pub mod Runs
