@@ -1,0 +1,4 @@
+pub mod Operation
+pub mod Spelling
+pub mod Reading
+pub mod OperationValues
