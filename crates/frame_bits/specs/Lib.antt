@@ -1,0 +1,4 @@
+pub mod Counting
+pub mod Timing
+pub mod Listing
+pub mod Unstuffed
