@@ -1,0 +1,4 @@
+pub mod FieldLaws
+pub mod FrameLaws
+pub mod OperationLaws
+pub mod ReadingLaws
