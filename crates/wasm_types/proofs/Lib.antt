@@ -1,0 +1,5 @@
+pub mod Sizes
+pub mod Parts
+pub mod Positions
+pub mod Reading
+pub mod Whole
