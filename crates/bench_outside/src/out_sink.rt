@@ -1,0 +1,58 @@
+//! A sink over a writer of std, as standard output.
+ghost use Rattle.std.specs.Prelude.{◌≡◌, None, OnOk, OnErr};
+ghost use Rattle.std.specs.Io.KnownBytes.{Appends};
+ghost use Rattle.bench_outside.specs.Causes.{HasCause};
+ghost use Rattle.bench_outside.specs.Sink.{Appended, AppendedPart};
+
+use crate::pieces::write_pieces;
+use crate::{Failed, Sink};
+use std::io::Write;
+use std::marker::Model;
+
+/// A stream of the system, or any other writer. It tells nothing of what was written, and counts
+/// each write that failed, up to the greatest `u64`.
+#[derive(Drop)]
+pub struct OutSink<W: Write + Drop> {
+    writer: W,
+    faults: u64,
+}
+
+impl<W: Write + Drop> Model for OutSink<W> {
+    ghost use Rattle.bench_outside.specs.Files as model;
+
+    ghost Value = { model.OutSink W };
+
+    ghost view = { λ s. record { writer = s.writer; faults = s.faults } };
+}
+
+impl<W: Write + Drop> OutSink<W> {
+    /// A sink over this writer, without faults.
+    pub fn new(writer: W) -> Self
+        ensures { result ≡ record { writer = writer; faults = 0 } }
+    {
+        OutSink { writer, faults: 0 }
+    }
+}
+
+impl<W: Write + Drop> Sink for OutSink<W> {
+    ghost written = { λ s. None };
+
+    ghost faults = { λ s. s.faults };
+
+    fn write(&mut self, bytes: &[u8]) -> Result<(), Failed>
+        // The writer takes all of the bytes, as far as it tells.
+        ensures through { OnOk result
+            (Appends (W.contents self.old.writer) (W.contents self.new.writer) bytes.now) }
+
+        // As for every sink.
+        ensures appended { OnOk result (Appended None None bytes.now) }
+        ensures part { OnErr result (AppendedPart None None bytes.now) }
+        ensures cause { HasCause self.old.faults self.new.faults result }
+    {
+        if write_pieces(&mut self.writer, bytes).is_err() {
+            self.faults = self.faults.saturating_add(1);
+            return Err(Failed);
+        }
+        Ok(())
+    }
+}
