@@ -1,0 +1,26 @@
+//! Laws of one bus and of the logs of its runs: each is the contract of a function with an empty body.
+#![tactic(auto)]
+
+mod deliveries;
+mod endings;
+mod files;
+mod moments;
+mod starts;
+mod winning;
+
+pub use deliveries::{
+    each_delivery_has_its_start, every_other_node_receives, no_more_deliveries_than_requests,
+};
+pub use endings::{
+    a_larger_budget_changes_nothing, each_action_is_answered, each_log_ends_with_its_status,
+    every_play_ends,
+};
+pub use files::{
+    each_action_of_a_file_is_answered, every_file_gives_such_a_play, moments_of_a_file_never_fall,
+};
+pub use moments::{moments_never_fall, nothing_happens_after_the_stop};
+pub use starts::{
+    an_intermission_before_each_start, each_start_is_of_a_request_that_waits,
+    no_better_request_waits_at_a_start, one_frame_at_a_time,
+};
+pub use winning::the_winner_is_beaten_by_none;
