@@ -1,0 +1,5 @@
+pub mod Cuts
+pub mod Digits
+pub mod Refusals
+pub mod Fits
+pub mod Steps

@@ -1,0 +1,4 @@
+pub mod Playable
+pub mod Parts
+pub mod Asked
+pub mod Answers

@@ -1,0 +1,26 @@
+//! Why a play file isn't read.
+
+use std::alloc::AllocError;
+
+/// Why a play file isn't read.
+#[derive(Clone, Copy, Debug, PartialEq, Eq)]
+pub enum PlayError {
+    /// The first line that breaks a rule, counted from 1. No line in front of it is Later.
+    Line { number: u64 },
+    /// The first line whose form is right and that isn't carried out yet, counted from 1.
+    /// No line in front of it breaks a rule.
+    Later { number: u64 },
+    /// Memory ran out.
+    Memory,
+}
+
+impl From<AllocError> for PlayError {
+    ghost use Rattle.std.specs.Prelude.{◌≡◌};
+    ghost use Rattle.play_file.specs.declared.error.PlayError.TheVariants.{Memory};
+
+    ghost from_gives = { λ _ e. e ≡ Memory };
+
+    fn from(_: AllocError) -> PlayError {
+        PlayError::Memory
+    }
+}
