@@ -1,0 +1,5 @@
+pub mod Lasting
+pub mod Logs
+pub mod Nodes
+pub mod Submitting
+pub mod Writes

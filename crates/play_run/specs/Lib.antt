@@ -1,0 +1,4 @@
+pub mod Endings
+pub mod Events
+pub mod Ready
+pub mod Worlds
