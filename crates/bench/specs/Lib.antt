@@ -1,0 +1,5 @@
+pub mod Words
+pub mod Statuses
+pub mod Refusals
+pub mod Plays
+pub mod Report
