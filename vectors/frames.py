@@ -3,7 +3,7 @@
 
 Each frame's bits are written out one by one, stuffed, and their times are added up. Nothing is
 taken from the Rattle crate. Run in this folder: it writes the table frames.txt and the same numbers
-for the crate's test, ../src/vectors.rt.
+for the crate's test, ../crates/frame_bits/src/vectors.rt.
 """
 
 NOMINAL, FAST = 2000, 500  # ticks of a nominal bit and of a data bit
@@ -136,7 +136,7 @@ def main():
     with open("frames.txt", "w") as out:
         out.write("# %s (nominal bit %d ticks, data bit %d)\n" % (head, NOMINAL, FAST))
         out.write("\n".join(table) + "\n")
-    with open("../src/vectors.rt", "w") as out:
+    with open("../crates/frame_bits/src/vectors.rt", "w") as out:
         out.write("//! Frames with their lengths and times; made by vectors/frames.py, and not by this crate.\n\n")
         out.write("/// Identifier, extended format, kind, number of bytes, first byte and what each next byte is more;\n")
         out.write("/// then: %s.\n" % head.replace("frame, ", ""))
