@@ -1,5 +1,5 @@
-//! What no clause says: the texts of whole logs, worked out by hand from the bits on the wire, and
-//! that calls succeed with ample memory.
+//! What no clause says: the texts of whole logs, which come from outside this program, and that calls
+//! succeed with ample memory.
 use crate::status::Status;
 use crate::top::bench;
 use bench_outside::{FileId, MemShelf, MemSink, Refusal, Why};
