@@ -1,10 +1,11 @@
 //! A shelf over the files of the system.
-ghost use Rattle.std.specs.Prelude.{◌≡◌, ◌≤◌, None, IfOk, length};
-ghost use Rattle.bench_outside.specs.Files.{no_file_faults};
+ghost use Rattle.std.specs.Prelude.{◌≡◌, ◌≤◌, None, IfOk, OnOk, length};
+ghost use Rattle.bench_outside.specs.Shelf.{Blames};
+ghost use Rattle.bench_outside.specs.Files.{no_file_faults, ReadFrom, WrittenTo};
 
 use crate::calls::FaultCount;
-use crate::pieces::{read_pieces, write_pieces};
-use crate::{Failed, Shelf, ShelfError};
+use crate::in_stream::InStream;
+use crate::{Failed, OutSink, Shelf, ShelfError, Sink};
 use std::alloc::Global;
 use std::fs::{self};
 use std::marker::Model;
@@ -40,24 +41,6 @@ impl<R: Files + Drop> FileShelf<R> {
     }
 }
 
-/// The first bytes of a file, at most `cap`.
-fn read_file<R: Files>(rt: &R, alloc: Global, name: &str, cap: u64) -> Result<Vec<u8>, ShelfError>
-    ensures short { IfOk result (λ v. length v.items ≤ cap) }
-{
-    let Ok(mut file) = fs::open(rt, name) else {
-        return Err(ShelfError::Failed);
-    };
-    read_pieces(alloc, &mut file, cap)
-}
-
-/// Makes a file of these bytes, in place of the one of this name.
-fn write_file<R: Files>(rt: &R, name: &str, bytes: &[u8]) -> Result<(), Failed> {
-    let Ok(mut file) = fs::create(rt, name) else {
-        return Err(Failed);
-    };
-    write_pieces(&mut file, bytes)
-}
-
 impl<R: Files + Drop> Shelf for FileShelf<R> {
     ghost holds = { λ s. None };
 
@@ -65,18 +48,40 @@ impl<R: Files + Drop> Shelf for FileShelf<R> {
 
     ghost write_faults = { λ s. s.writes };
 
-    fn read(&mut self, alloc: Global, name: &str, cap: u64) -> Result<Vec<u8>, ShelfError> {
+    fn read(&mut self, alloc: Global, name: &str, cap: u64) -> Result<Vec<u8>, ShelfError>
+        // What is answered was read from a file of the runtime.
+        ensures from_file { IfOk result (λ v. ReadFrom R.File.remaining v.items cap) }
+
+        // As for every shelf, which here tells nothing of content.
+        ensures short { IfOk result (λ v. length v.items ≤ cap) }
+        ensures cause { Blames self.old.reads self.new.reads name.now result }
+        ensures others { self.new.writes ≡ self.old.writes }
+    {
         let blamed = name.as_bytes().to_vec(alloc)?;
-        let result = read_file(&self.rt, alloc, name, cap);
+        let result = match fs::open(&self.rt, name) {
+            Ok(file) => InStream::new(file).read_first(alloc, cap),
+            Err(_) => Err(ShelfError::Failed),
+        };
         if let Err(ShelfError::Failed) = result {
             self.reads.blame(blamed);
         }
         result
     }
 
-    fn write(&mut self, alloc: Global, name: &str, bytes: &[u8]) -> Result<(), ShelfError> {
+    fn write(&mut self, alloc: Global, name: &str, bytes: &[u8]) -> Result<(), ShelfError>
+        // What is stored was written to a file of the runtime.
+        ensures to_file { OnOk result (WrittenTo R.File.contents bytes.now) }
+
+        // As for every shelf, which here tells nothing of content.
+        ensures cause { Blames self.old.writes self.new.writes name.now result }
+        ensures others { self.new.reads ≡ self.old.reads }
+    {
         let blamed = name.as_bytes().to_vec(alloc)?;
-        if write_file(&self.rt, name, bytes).is_err() {
+        let result = match fs::create(&self.rt, name) {
+            Ok(file) => OutSink::new(file).write(bytes),
+            Err(_) => Err(Failed),
+        };
+        if result.is_err() {
             self.writes.blame(blamed);
             return Err(ShelfError::Failed);
         }

@@ -3,10 +3,10 @@
 
 mod calls;
 mod file_shelf;
+mod in_stream;
 mod mem_shelf;
 mod mem_sink;
 mod out_sink;
-mod pieces;
 mod refusal;
 mod shelf;
 mod sink;

@@ -1,10 +1,11 @@
 //! A sink over a writer of std, as standard output.
-ghost use Rattle.std.specs.Prelude.{◌≡◌, None, OnOk, OnErr};
-ghost use Rattle.std.specs.Io.KnownBytes.{Appends};
+ghost use Rattle.std.specs.Prelude.{◌≡◌, None, OnOk, OnErr, IfOk, ◌<◌, length};
+ghost use Rattle.std.specs.Io.{WritesAtMost};
+ghost use Rattle.std.specs.Io.KnownBytes.{Appends, WriteAppends};
 ghost use Rattle.bench_outside.specs.Causes.{HasCause};
 ghost use Rattle.bench_outside.specs.Sink.{Appended, AppendedPart};
+ghost use Rattle.bench_outside.specs.Files.{AppendsPart};
 
-use crate::pieces::write_pieces;
 use crate::{Failed, Sink};
 use std::io::Write;
 use std::marker::Model;
@@ -32,6 +33,23 @@ impl<W: Write + Drop> OutSink<W> {
     {
         OutSink { writer, faults: 0 }
     }
+
+    /// Writes some bytes of a piece that isn't empty. Where the writer takes none, that is a fault.
+    fn write_piece(&mut self, piece: &[u8]) -> Result<usize, Failed>
+        ensures bound { WritesAtMost result piece.now }
+        ensures some { IfOk result (λ n. 0 < n) }
+        ensures bytes { WriteAppends (W.contents self.old.writer) (W.contents self.new.writer)
+            result piece.now }
+        ensures cause { HasCause self.old.faults self.new.faults result }
+    {
+        match self.writer.write(piece) {
+            Ok(count) if count > 0 => Ok(count),
+            _ => {
+                self.faults = self.faults.saturating_add(1);
+                Err(Failed)
+            }
+        }
+    }
 }
 
 impl<W: Write + Drop> Sink for OutSink<W> {
@@ -40,18 +58,20 @@ impl<W: Write + Drop> Sink for OutSink<W> {
     ghost faults = { λ s. s.faults };
 
     fn write(&mut self, bytes: &[u8]) -> Result<(), Failed>
-        // The writer takes all of the bytes, as far as it tells.
+        // The writer takes all of the bytes, or at a failure a first part, as far as it tells.
         ensures through { OnOk result
             (Appends (W.contents self.old.writer) (W.contents self.new.writer) bytes.now) }
+        ensures part_through { OnErr result
+            (AppendsPart (W.contents self.old.writer) (W.contents self.new.writer) bytes.now) }
 
         // As for every sink.
         ensures appended { OnOk result (Appended None None bytes.now) }
         ensures part { OnErr result (AppendedPart None None bytes.now) }
         ensures cause { HasCause self.old.faults self.new.faults result }
     {
-        if write_pieces(&mut self.writer, bytes).is_err() {
-            self.faults = self.faults.saturating_add(1);
-            return Err(Failed);
+        let mut at = 0;
+        while at < bytes.len() {
+            at += self.write_piece(&bytes[at..])?;
         }
         Ok(())
     }
