@@ -1,4 +1,4 @@
--- One event of a run, and then the rest.
+-- Lemmas, with nothing to believe: one event of a run, and then the rest.
 use Rattle.std.specs.Prelude.{◌≡◌, ℕ, zero, suc, List, ◌++◌, ◌∷◌, [], Some, None}
 use Rattle.std.proofs.Common.{◌∙◌, ap, sym, append_assoc, arith, ◌<◌, ◌-◌}
 use Rattle.std.proofs.lemmas.Grind.{flat_map-append}

@@ -3,14 +3,13 @@ use Rattle.std.specs.Prelude.{ℕ, List, [], ◌∷◌, ◌++◌, flat_map, deci
 use Rattle.frame_specs.specs.Frame.{Frame}
 use Rattle.frame_specs.specs.FrameText.{frame_text}
 
--- Each begins with moment, bus and node, but End.
 pub data Line : Type 0 where
   -- A request is accepted, or refused since its node has 256; a frame starts; a loser keeps its request.
-  Req Full Start LostKept : ℕ → ℕ → ℕ → Frame → Line
+  Req Full Start LostKept : (moment bus node : ℕ) (frame : Frame) → Line
   -- a frame is delivered, and to these nodes
-  Done : ℕ → ℕ → ℕ → Frame → List ℕ → Line
-  -- status and number of events
-  End : ℕ → ℕ → Line
+  Done : (moment bus node : ℕ) (frame : Frame) (receivers : List ℕ) → Line
+  -- the log ends
+  End : (status events : ℕ) → Line
 
 abbrev pub space : ℕ
 space = 32

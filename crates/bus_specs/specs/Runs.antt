@@ -1,5 +1,5 @@
 -- Worked runs, computed: the logs are those of an independent implementation.
-use Rattle.std.specs.Prelude.{◌≡◌, ℕ, true, false, List, [], ◌∷◌, ◌++◌, Some, codes, replicate, length, refl}
+use Rattle.std.specs.Prelude.{◌≡◌, ℕ, Bool, true, false, List, [], ◌∷◌, ◌++◌, Some, codes, replicate, count_by, refl}
 use Rattle.std.specs.Fmt.{digits}
 use Rattle.frame_specs.specs.Frame.{Kind, Data, Fd}
 use Rattle.frame_specs.specs.Wire.{stuff, stuff_open, stuffed, duration}
@@ -9,7 +9,7 @@ use Rattle.bus_specs.specs.Start.{start}
 use Rattle.bus_specs.specs.Finish.{finish}
 use Rattle.bus_specs.specs.Submit.{Transmit, submit}
 use Rattle.bus_specs.specs.Due.{next_due}
-use Rattle.bus_specs.specs.Line.{line_text}
+use Rattle.bus_specs.specs.Line.{Line, Full, line_text}
 use Rattle.bus_specs.specs.History.{Play, Action, play_log, play_lines, play_status, run_from, status_from, next_event}
 
 abbrev line : List ℕ → List ℕ
@@ -83,7 +83,58 @@ pub spent_budget : play_log 2 (play (sends 0 0 Data 0 ∷ []))
 unfolding stuff stuff_open stuffed duration beats winner start finish submit next_due next_event run_from line_text digits
 spent_budget = refl
 
--- 256 requests of a node wait at most
-pub full : length (play_lines 1 (play (replicate 300 (sends 0 0 Data 0x7ff)))) ≡ 301
+-- three events are enough: none is left
+pub sufficient_budget : play_status 3 (play (sends 0 0 Data 0 ∷ [])) ≡ 0
+unfolding stuff stuff_open stuffed duration beats winner start finish submit next_due next_event status_from
+sufficient_budget = refl
+
+abbrev stopped : ℕ → List Action → List ℕ
+stopped stop actions = play_log 1000000 (record (play actions) { stop = stop })
+
+-- what happens at the stop still happens
+pub stop_at_the_end_of_a_frame : stopped 100000 (sends 0 0 Data 0 ∷ [])
+    ≡ line (codes "0 0 req 0 000#") ++ line (codes "0 0 start 0 000#") ++ line (codes "100000 0 done 0 000# to 1")
+    ++ line (codes "end 0 3")
+unfolding stuff stuff_open stuffed duration beats winner start finish submit next_due next_event run_from line_text digits
+stop_at_the_end_of_a_frame = refl
+
+pub stop_before_the_end_of_a_frame : stopped 99999 (sends 0 0 Data 0 ∷ [])
+    ≡ line (codes "0 0 req 0 000#") ++ line (codes "0 0 start 0 000#") ++ line (codes "end 0 2")
+unfolding stuff stuff_open stuffed duration beats winner start finish submit next_due next_event run_from line_text digits
+stop_before_the_end_of_a_frame = refl
+
+-- at one moment a frame ends first, then the lines of the file are carried out
+pub delivery_before_a_request : log (sends 0 0 Data 0 ∷ sends 100000 1 Data 0x0ff ∷ [])
+    ≡ line (codes "0 0 req 0 000#") ++ line (codes "0 0 start 0 000#") ++ line (codes "100000 0 done 0 000# to 1")
+    ++ line (codes "100000 0 req 1 0ff#") ++ line (codes "106000 0 start 1 0ff#")
+    ++ line (codes "200000 0 done 1 0ff# to 0") ++ line (codes "end 0 6")
+unfolding stuff stuff_open stuffed duration beats winner start finish submit next_due next_event run_from line_text digits
+delivery_before_a_request = refl
+
+-- and then a frame starts: a request of that moment takes part
+pub request_before_a_start : log (sends 0 0 Data 0 ∷ sends 1 0 Data 0x100 ∷ sends 106000 1 Data 0x0ff ∷ [])
+    ≡ line (codes "0 0 req 0 000#") ++ line (codes "0 0 start 0 000#") ++ line (codes "1 0 req 0 100#")
+    ++ line (codes "100000 0 done 0 000# to 1") ++ line (codes "106000 0 req 1 0ff#")
+    ++ line (codes "106000 0 start 1 0ff#") ++ line (codes "106000 0 lost 0 100# keep")
+    ++ line (codes "200000 0 done 1 0ff# to 0") ++ line (codes "206000 0 start 0 100#")
+    ++ line (codes "302000 0 done 0 100# to 1") ++ line (codes "end 0 9")
+unfolding stuff stuff_open stuffed duration beats winner start finish submit next_due next_event run_from line_text digits
+request_before_a_start = refl
+
+-- receivers and losers in the order of the nodes
+pub three_nodes : play_log 3 (record (play (sends 0 2 Data 0x100 ∷ sends 0 0 Data 0x200 ∷ sends 0 1 Data 0 ∷ []))
+    { nodes = 0 ∷ 1 ∷ 2 ∷ [] })
+    ≡ line (codes "0 0 req 2 100#") ++ line (codes "0 0 req 0 200#") ++ line (codes "0 0 req 1 000#")
+    ++ line (codes "0 0 start 1 000#") ++ line (codes "0 0 lost 0 200# keep") ++ line (codes "0 0 lost 2 100# keep")
+    ++ line (codes "100000 0 done 1 000# to 0,2") ++ line (codes "end 8 3")
+unfolding stuff stuff_open stuffed duration beats winner start finish submit next_due next_event run_from line_text digits
+three_nodes = refl
+
+abbrev refused : Line → Bool
+refused (Full t b n f) = true
+refused other = false
+
+-- 256 requests of a node wait at most: of 300 at one moment 44 are refused
+pub full : count_by refused (play_lines 1 (play (replicate 300 (sends 0 0 Data 0x7ff)))) ≡ 44
 unfolding stuff stuff_open stuffed duration beats winner start finish submit next_due next_event run_from
 full = refl
