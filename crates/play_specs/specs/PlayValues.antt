@@ -25,6 +25,19 @@ pub empty_file : play_of [] ≡ Err (BadLine 1)
 unfolding play_of
 empty_file = refl
 
+pub header_alone : play_of header ≡ Ok (record {
+  setup = record { number = 0; nominal = 2000; fast = Some 500 };
+  nodes = 0 ∷ 1 ∷ [];
+  stop = 1000000;
+  actions = [];
+})
+unfolding play_of number_of number_in action_of numbers_of_header frame_of
+header_alone = refl
+
+pub two_bad_lines : play_of (header ++ line (codes "0 0 doze") ++ line (codes "nonsense")) ≡ Err (BadLine 2)
+unfolding play_of number_of number_in action_of numbers_of_header frame_of
+two_bad_lines = refl
+
 pub unended_line : play_of (header ++ line (codes "0 0 send 000#") ++ codes "1 0 send 000#") ≡ Err (BadLine 3)
 unfolding play_of number_of number_in action_of numbers_of_header frame_of
 unended_line = refl
@@ -32,6 +45,10 @@ unended_line = refl
 pub leading_zero : play_of (header ++ line (codes "0 00 send 000#")) ≡ Err (BadLine 2)
 unfolding play_of number_of number_in action_of numbers_of_header frame_of
 leading_zero = refl
+
+pub upper_case_digit : play_of (header ++ line (codes "0 0 send 7FF#")) ≡ Err (BadLine 2)
+unfolding play_of number_of number_in action_of numbers_of_header frame_of
+upper_case_digit = refl
 
 pub moment_that_falls : play_of (header ++ line (codes "5 0 send 000#") ++ line (codes "4 0 send 000#")) ≡ Err (BadLine 3)
 unfolding play_of number_of number_in action_of numbers_of_header frame_of
