@@ -20,3 +20,6 @@ pub mod Started
 pub mod Finite
 pub mod Read
 pub mod OfFiles
+pub mod FileLines
+pub mod Refused
+pub mod Whole

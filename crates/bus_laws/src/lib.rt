@@ -17,6 +17,8 @@ pub use endings::{
 };
 pub use files::{
     each_action_of_a_file_is_answered, every_file_gives_such_a_play, moments_of_a_file_never_fall,
+    no_line_of_a_play_is_passed_over, the_lines_before_the_refused_one_are_a_play,
+    the_refused_line_is_in_the_file, what_stands_behind_the_refused_line_changes_nothing,
 };
 pub use moments::{moments_never_fall, nothing_happens_after_the_stop};
 pub use starts::{
