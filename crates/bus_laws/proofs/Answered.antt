@@ -67,14 +67,14 @@ none_due stop low [] l h = refl
 none_due stop low (a ∷ as') l h = rw (lt-leb a.moment stop (omega (arith, h.0))) (none_due stop a.moment as' (omega (arith, h.0)) h.1)
 
 -- where nothing is due up to the stop, the file has nothing up to it
-not_up_to : (stop : ℕ) (c : Due) → up_to stop (Some c) ≡ None → stop < c.moment
+pub not_up_to : (stop : ℕ) (c : Due) → up_to stop (Some c) ≡ None → stop < c.moment
 not_up_to stop c h = go (nat_le c.moment stop) refl h
   where
     go : (b : Bool) → nat_le c.moment stop ≡ b → (if b then Some c else None) ≡ None → stop < c.moment
     go true t e = absurd cc
     go false t e = leb-false c.moment stop t
 
-sooner_some : (c d : Due) → (e : Due) × (sooner (Some c) d ≡ Some e)
+pub sooner_some : (c d : Due) → (e : Due) × (sooner (Some c) d ≡ Some e)
 sooner_some c d = go (precedes d c)
   where
     go : (b : Bool) → (e : Due) × ((if b then Some d else Some c) ≡ Some e)

@@ -15,13 +15,15 @@ module _ (p : Play) where
       → IsFair p before x
   fair_at budget before x rest e = along-at (IsFair p) [] before x rest (subst (Along (IsFair p) []) e (fair_log p budget))
 
-  counted_to : (past before rest : List Line) (is_meant : ℕ → Frame → Bool) → Along (IsFair p) past (before ++ rest)
-      → given is_meant past ≤ asked is_meant past
-      → given is_meant (past ++ before) ≤ asked is_meant (past ++ before)
-  counted_to past [] rest is_meant h l = subst (λ ls. given is_meant ls ≤ asked is_meant ls) (sym (append-nil past)) l
-  counted_to past (x ∷ before) rest is_meant h l =
-      subst (λ ls. given is_meant ls ≤ asked is_meant ls) (append_assoc past (x ∷ []) before)
-      (counted_to (past ++ x ∷ []) before rest is_meant h.1 ((h.0).counted is_meant))
+  -- what each fair line leaves is so behind each first part of a log
+  module _ (Q : List Line → Type 0) (left : (past : List Line) (x : Line) → IsFair p past x → Q (past ++ x ∷ [])) where
+    left_to : (past before rest : List Line) → Along (IsFair p) past (before ++ rest) → Q past → Q (past ++ before)
+    left_to past [] rest h q = subst Q (sym (append-nil past)) q
+    left_to past (x ∷ before) rest h q =
+        subst Q (append_assoc past (x ∷ []) before) (left_to (past ++ x ∷ []) before rest h.1 (left past x h.0))
+
+    pub left_behind : (budget : ℕ) (before rest : List Line) → play_lines budget p ≡ before ++ rest → Q [] → Q before
+    left_behind budget before rest e q = left_to [] before rest (subst (Along (IsFair p) []) e (fair_log p budget)) q
 
   fair_among : (past lines : List Line) (x : Line) → Along (IsFair p) past lines → Among lines x
       → (before : List Line) × IsFair p before x
@@ -48,7 +50,8 @@ started_before budget p before rest t bus node f receivers e = (fair_at p budget
 
 pub asked_before : (budget : ℕ) (p : Play) (is_meant : ℕ → Frame → Bool) (before rest : List Line)
     → play_lines budget p ≡ before ++ rest → count_by (is_delivery is_meant) before ≤ count_by (is_request is_meant) before
-asked_before budget p is_meant before rest e = counted_to p [] before rest is_meant (subst (Along (IsFair p) []) e (fair_log p budget)) (omega arith)
+asked_before budget p is_meant before rest e =
+    left_behind p (λ ls. given is_meant ls ≤ asked is_meant ls) (λ past x h. h.counted is_meant) budget before rest e (omega arith)
 
 pub received_by_all : (budget : ℕ) (p : Play) (t bus node : ℕ) (f : Frame) (receivers : List ℕ)
     → Contains (play_lines budget p) (Done t bus node f receivers) → AreTheOthers p.nodes node receivers

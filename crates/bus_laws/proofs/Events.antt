@@ -68,7 +68,7 @@ fold_starts now b (m ∷ ms) (Some c) within h =
     either true = one_start now b m (within m (inl refl))
     either false = h
 
-up_to_is : (stop : ℕ) (o : Option Due) (d : Due) → up_to stop o ≡ Some d → o ≡ Some d
+pub up_to_is : (stop : ℕ) (o : Option Due) (d : Due) → up_to stop o ≡ Some d → o ≡ Some d
 up_to_is stop None d h = h
 up_to_is stop (Some c) d h = go (nat_le c.moment stop) h
   where

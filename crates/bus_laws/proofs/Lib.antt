@@ -16,7 +16,12 @@ pub mod Counts
 pub mod Numbers
 pub mod Sound
 pub mod Delivered
+pub mod Queued
 pub mod Started
+pub mod Around
+pub mod Dues
+pub mod Timed
+pub mod Lost
 pub mod Finite
 pub mod Read
 pub mod OfFiles

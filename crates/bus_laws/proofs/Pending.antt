@@ -39,7 +39,7 @@ winner-among b now w h =
     (offer-among b.requests (m.0).node w m.2).0
 
 -- where a node that has a request is ready, there is a winner
-has-among : (rs : List Request) (node : ℕ) → has_request rs node ≡ true → (q : Request) × Among rs q × ((q.node == node) ≡ true)
+pub has-among : (rs : List Request) (node : ℕ) → has_request rs node ≡ true → (q : Request) × Among rs q × ((q.node == node) ≡ true)
 has-among [] node h = absurd cc
 has-among (r ∷ rs) node h = go (r.node == node) refl h (has-among rs node)
   where

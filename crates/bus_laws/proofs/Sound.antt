@@ -1,7 +1,7 @@
 -- What every bus of a run has, and every line of its log: kept by each event.
-use Rattle.std.proofs.Common.{◌≡◌, ℕ, ◌+◌, ◌<◌, ◌≤◌, ◌==◌, ◌⊎◌, Bool, true, false, cond, not, List, [], ◌∷◌, ◌++◌, map, filter, Option, Some, None, IfSome, Contains, arith, sym, refl, ap, ◌∙◌, subst, append_assoc, append-nil, inl, inr}
+use Rattle.std.proofs.Common.{◌≡◌, ℕ, ◌+◌, ◌<◌, ◌≤◌, ◌==◌, ◌⊎◌, Bool, true, false, cond, if◌then◌else◌, not, nat_le, List, [], ◌∷◌, ◌++◌, map, filter, Option, Some, None, IfSome, Contains, arith, sym, refl, ap, ◌∙◌, subst, append_assoc, append-nil, inl, inr}
 use Rattle.std.specs.Prelude.{⊤}
-use Rattle.std.proofs.lemmas.Bool.{both_ways, false_from_ne_true}
+use Rattle.std.proofs.lemmas.Bool.{both_ways, false_from_ne_true, eqb-true, leb-true, leb-false}
 use Rattle.std.proofs.lemmas.List.Elements.{All-push, All-nil, All-contains}
 use Rattle.frame_specs.specs.Frame.{Frame}
 use Rattle.frame_specs.specs.Dominance.{beats}
@@ -11,11 +11,12 @@ use Rattle.bus_specs.specs.Bus.{Bus, Setup, Member, Running, Request, winner, fr
 use Rattle.bus_specs.specs.Start.{starts_with, started, losers}
 use Rattle.bus_specs.specs.Finish.{finished, finish_lines}
 use Rattle.bus_specs.specs.Submit as submitting
-use Rattle.bus_specs.specs.Submit.{submit, requested, fate, Fate, Accepted, Submission, Transmit}
+use Rattle.bus_specs.specs.Submit.{submit, requested, fate, waiting, Fate, Accepted, Submission, Transmit}
 use Rattle.bus_specs.specs.Due.{Due}
 use Rattle.bus_specs.specs.History.{Action, Play, World, opening, after, lines_of, at_moment, submissions, play_lines}
 use Rattle.bus_laws.specs.Plays.{RiseStrictly}
 use Rattle.bus_laws.specs.Deliveries.{HasStart, is_between, is_request, is_delivery, others, time_on_wire}
+use Rattle.bus_laws.specs.Queues.{of_node}
 use Rattle.bus_laws.specs.Starts.{is_start, every_frame, intermission, Precedes, KnowsItsNodes}
 use Rattle.bus_laws.specs.Winning.{nodes_of, IsOrderly, Wins}
 use Rattle.bus_laws.proofs.Along.{Along, along-append, along_run}
@@ -51,6 +52,23 @@ rested-push setup past idle x e h t bus n f ns a = go (among-push_cases past x (
     go (inl k) = h t bus n f ns k
     go (inr s) = absurd (both_ways (is_delivery every_frame x) e (ap (is_delivery every_frame) s))
 
+-- a request is refused where 256 wait, and accepted where fewer do
+refused_at : (b : Bus) (node : ℕ) → fate b node ≡ submitting.Full → 256 ≤ waiting b node
+refused_at b node e = go (nat_le 256 (waiting b node)) refl e
+  where
+    go : (t : Bool) → nat_le 256 (waiting b node) ≡ t → (if t then submitting.Full else Accepted) ≡ submitting.Full
+        → 256 ≤ waiting b node
+    go true q k = leb-true 256 (waiting b node) q
+    go false q k = absurd cc
+
+accepted_at : (b : Bus) (node : ℕ) → fate b node ≡ Accepted → waiting b node < 256
+accepted_at b node e = go (nat_le 256 (waiting b node)) refl e
+  where
+    go : (t : Bool) → nat_le 256 (waiting b node) ≡ t → (if t then submitting.Full else Accepted) ≡ Accepted
+        → waiting b node < 256
+    go true q k = absurd cc
+    go false q k = leb-false 256 (waiting b node) q
+
 module _ (p : Play) where
   -- what a delivery has in the lines in front of it
   pub record Delivers (past : List Line) (t bus n : ℕ) (f : Frame) (ns : List ℕ) : Type 0 where
@@ -69,14 +87,15 @@ module _ (p : Play) where
   abbrev TellsWell : List Line → Line → Type 0
   TellsWell past (Done t b n f ns) = Delivers past t b n f ns
   TellsWell past (Start t b n f) = StartsWell past t n f
-  TellsWell past (Req t b n f) = ⊤
-  TellsWell past (Full t b n f) = ⊤
+  TellsWell past (Req t b n f) = asked (of_node n) past < given (of_node n) past + 256
+  TellsWell past (Full t b n f) = asked (of_node n) past ≡ given (of_node n) past + 256
   TellsWell past (LostKept t b n f) = ⊤
   TellsWell past (End status events) = ⊤
 
   pub record IsFair (past : List Line) (x : Line) : Type 0 where
     pub told : TellsWell past x
     pub counted : (is_meant : ℕ → Frame → Bool) → given is_meant (past ++ x ∷ []) ≤ asked is_meant (past ++ x ∷ [])
+    pub at_most : (n : ℕ) → asked (of_node n) (past ++ x ∷ []) ≤ given (of_node n) (past ++ x ∷ []) + 256
 
   -- the frame on the wire: its request waits, its listeners are the others, it has its start, and the bus was idle before
   pub record RunsWell (past : List Line) (setup : Setup) (idle : ℕ) (requests : List Request) (r : Running) : Type 0 where
@@ -92,6 +111,7 @@ module _ (p : Play) where
     pub known : KnowsItsNodes p → (q : Request) → Among b.requests q → Among p.nodes q.node
     pub numbers : NumbersBelow 0 b.requests b.next
     pub counted : (is_meant : ℕ → Frame → Bool) → given is_meant past + wait is_meant b.requests ≡ asked is_meant past
+    pub at_most : (n : ℕ) → wait (of_node n) b.requests ≤ 256
     pub wire : started_in past ≡ given every_frame past + on_wire b.running
     pub rested : Rested b.setup past b.idle
     pub running : IfSome b.running (RunsWell past b.setup b.idle b.requests)
@@ -102,7 +122,6 @@ module _ (p : Play) where
     no_request : (is_meant : ℕ → Frame → Bool) → is_request is_meant x ≡ false
     no_start : is_start x ≡ false
     no_delivery : (is_meant : ℕ → Frame → Bool) → is_delivery is_meant x ≡ false
-    tells : (past : List Line) → TellsWell past x
 
   runs-push : (past : List Line) (x : Line) (setup : Setup) (idle : ℕ) (requests more : List Request) (o : Option Running)
       → is_between x ≡ true
@@ -115,11 +134,13 @@ module _ (p : Play) where
     after_idle = h.after_idle;
   }
 
-  aside : (past : List Line) (b : Bus) (x : Line) → IsAside x → IsSound past b → IsFair past x × IsSound (past ++ x ∷ []) b
-  aside past b x i s = (
+  aside : (past : List Line) (b : Bus) (x : Line) → IsAside x → TellsWell past x → IsSound past b
+      → IsFair past x × IsSound (past ++ x ∷ []) b
+  aside past b x i told s = (
     record {
-      told = i.tells past;
+      told = told;
       counted = λ is_meant. omega (arith, s.counted is_meant, same_asked is_meant, same_given is_meant);
+      at_most = λ n. omega (arith, s.counted (of_node n), s.at_most n, same_asked (of_node n), same_given (of_node n));
     },
     record {
       setup = s.setup;
@@ -127,6 +148,7 @@ module _ (p : Play) where
       known = s.known;
       numbers = s.numbers;
       counted = λ is_meant. omega (arith, s.counted is_meant, same_asked is_meant, same_given is_meant);
+      at_most = s.at_most;
       wire = omega (arith, s.wire, same_given every_frame, started_push past x ∙ ap {B = ℕ} (λ t. started_in past + cond t 1 0) i.no_start);
       rested = rested-push b.setup past b.idle x (i.no_delivery every_frame) s.rested;
       running = subst (λ qs. IfSome b.running (RunsWell (past ++ x ∷ []) b.setup b.idle qs)) (append-nil b.requests)
@@ -146,19 +168,21 @@ module _ (p : Play) where
   aside_losers past b now [] s = (tt, subst (λ ls. IsSound ls b) (sym (append-nil past)) s)
   aside_losers past b now (q ∷ qs) s =
       let x : Line = LostKept now b.setup.number q.node q.frame in
-      let one = aside past b x (record { between = refl; no_request = λ _. refl; no_start = refl; no_delivery = λ _. refl; tells = λ _. tt }) s in
+      let one = aside past b x (record { between = refl; no_request = λ _. refl; no_start = refl; no_delivery = λ _. refl }) tt s in
       let more = aside_losers (past ++ x ∷ []) b now qs one.1 in
       ((one.0, more.0), subst (λ ls. IsSound ls b) (append_assoc past (x ∷ []) (map (λ r. LostKept now b.setup.number r.node r.frame) qs)) more.1)
 
-  by_fate : (past : List Line) (b : Bus) (now node : ℕ) (f : Frame) (t : Fate) → (KnowsItsNodes p → Among p.nodes node)
-      → IsSound past b
+  by_fate : (past : List Line) (b : Bus) (now node : ℕ) (f : Frame) (t : Fate) → fate b node ≡ t
+      → (KnowsItsNodes p → Among p.nodes node) → IsSound past b
       → IsFair past (requested b now node f t).1 × IsSound (past ++ (requested b now node f t).1 ∷ []) (requested b now node f t).0
-  by_fate past b now node f submitting.Full k s =
-      aside past b (Full now b.setup.number node f) (record { between = refl; no_request = λ _. refl; no_start = refl; no_delivery = λ _. refl; tells = λ _. tt }) s
-  by_fate past b now node f Accepted k s = (
+  by_fate past b now node f submitting.Full e k s =
+      aside past b (Full now b.setup.number node f) (record { between = refl; no_request = λ _. refl; no_start = refl; no_delivery = λ _. refl })
+      (omega (arith, s.counted (of_node node), s.at_most node, refused_at b node e)) s
+  by_fate past b now node f Accepted e k s = (
     record {
-      told = tt;
+      told = omega (arith, s.counted (of_node node), accepted_at b node e);
       counted = λ is_meant. omega (arith, s.counted is_meant, asked_push is_meant past x, given_push is_meant past x);
+      at_most = λ n. omega (arith, s.counted (of_node n), fits n, asked_push (of_node n) past x, given_push (of_node n) past x, wait_push (of_node n) b.requests q);
     },
     record {
       setup = s.setup;
@@ -166,6 +190,7 @@ module _ (p : Play) where
       known = λ c r a. by_place c r (among-push_cases b.requests q r a);
       numbers = numbers-push 0 b.requests q s.numbers;
       counted = λ is_meant. omega (arith, s.counted is_meant, asked_push is_meant past x, given_push is_meant past x, wait_push is_meant b.requests q);
+      at_most = fits;
       wire = omega (arith, s.wire, started_push past x, given_push every_frame past x);
       rested = rested-push b.setup past b.idle x refl s.rested;
       running = runs-push past x b.setup b.idle b.requests (q ∷ []) b.running refl s.running;
@@ -178,6 +203,16 @@ module _ (p : Play) where
       q : Request
       q = record { node = node; number = b.next; frame = f }
 
+      fits : (n : ℕ) → wait (of_node n) (b.requests ++ q ∷ []) ≤ 256
+      fits n = go (node == n) refl
+        where
+          go : (t : Bool) → (node == n) ≡ t → wait (of_node n) (b.requests ++ q ∷ []) ≤ 256
+          go true same =
+              let here : node ≡ n = eqb-true node n same in
+              let less : wait (of_node n) b.requests < 256 = subst (λ m. waiting b m < 256) here (accepted_at b node e) in
+              omega (arith, wait_push (of_node n) b.requests q, ap {B = ℕ} (λ x. cond x 1 0) same)
+          go false other = omega (arith, s.at_most n, wait_push (of_node n) b.requests q, ap {B = ℕ} (λ x. cond x 1 0) other)
+
       by_place : KnowsItsNodes p → (r : Request) → Among b.requests r ⊎ (q ≡ r) → Among p.nodes r.node
       by_place c r (inl a) = s.known c r a
       by_place c r (inr e) = subst (λ (y : Request). Among p.nodes y.node) e (k c)
@@ -186,7 +221,7 @@ module _ (p : Play) where
       → IsSound past b
       → IsFair past (submit b now node what).1 × IsSound (past ++ (submit b now node what).1 ∷ []) (submit b now node what).0
   unfolding submit
-  submit_well past b now node (Transmit f) k s = by_fate past b now node f (fate b node) k s
+  submit_well past b now node (Transmit f) k s = by_fate past b now node f (fate b node) refl k s
 
   -- lines behind these, and the bus behind them all
   abbrev SoundBehind : List Line → Bus × List Line → Type 0
@@ -273,6 +308,7 @@ module _ (p : Play) where
           first = λ rise k is_meant better. omega (arith, s.counted is_meant, none_better b q (winner_wins b now q (orderly past b s rise k) w) is_meant better);
         };
         counted = λ is_meant. omega (arith, s.counted is_meant, asked_push is_meant past x, given_push is_meant past x);
+        at_most = λ n. omega (arith, s.counted (of_node n), s.at_most n, asked_push (of_node n) past x, given_push (of_node n) past x);
       }
 
       sound : IsSound (past ++ x ∷ []) (started b now q)
@@ -282,6 +318,7 @@ module _ (p : Play) where
         known = s.known;
         numbers = s.numbers;
         counted = λ is_meant. omega (arith, s.counted is_meant, asked_push is_meant past x, given_push is_meant past x);
+        at_most = s.at_most;
         wire = omega (arith, idle, started_push past x, given_push every_frame past x);
         rested = rested-push b.setup past b.idle x refl s.rested;
         running = record {
@@ -317,6 +354,7 @@ module _ (p : Play) where
       fair = record {
         told = record { begun = runs.begun; heard = runs.heard };
         counted = λ is_meant. omega (arith, s.counted is_meant, dropped is_meant, asked_push is_meant past x, given_push is_meant past x);
+        at_most = λ n. omega (arith, s.counted (of_node n), s.at_most n, dropped (of_node n), asked_push (of_node n) past x, given_push (of_node n) past x);
       }
 
       by_place : (t bus n : ℕ) (f : Frame) (ns : List ℕ) → Among past (Done t bus n f ns) ⊎ (x ≡ Done t bus n f ns)
@@ -331,6 +369,7 @@ module _ (p : Play) where
         known = λ k q a. s.known k q (filter-among (stays r) b.requests q a).0;
         numbers = numbers-filter (stays r) 0 b.requests b.next s.numbers;
         counted = λ is_meant. omega (arith, s.counted is_meant, dropped is_meant, asked_push is_meant past x, given_push is_meant past x);
+        at_most = λ n. omega (arith, s.at_most n, dropped (of_node n));
         wire = omega (arith, s.wire, ap on_wire run, started_push past x, given_push every_frame past x);
         rested = λ t bus n f ns a. by_place t bus n f ns (among-push_cases past x (Done t bus n f ns) a);
         running = tt;
@@ -365,6 +404,7 @@ module _ (p : Play) where
       known = λ k q a. absurd a;
       numbers = omega arith;
       counted = λ is_meant. refl;
+      at_most = λ n. omega arith;
       wire = refl;
       rested = λ t bus n f ns a. absurd a;
       running = tt;
@@ -376,5 +416,5 @@ module _ (p : Play) where
   pub fair_log : (budget : ℕ) → Along IsFair [] (play_lines budget p)
   fair_log budget = along_run IsFair IsSoundWorld p.stop
       (λ past w d s e. event_well past w d s (event_of p.stop w d e))
-      (λ past w status s. (aside past w.bus (End status w.events) (record { between = refl; no_request = λ _. refl; no_start = refl; no_delivery = λ _. refl; tells = λ _. tt }) s.bus).0)
+      (λ past w status s. (aside past w.bus (End status w.events) (record { between = refl; no_request = λ _. refl; no_start = refl; no_delivery = λ _. refl }) tt s.bus).0)
       budget [] (opening p) sound_opening

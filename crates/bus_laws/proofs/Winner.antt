@@ -105,7 +105,7 @@ above_offers rs low (m ∷ ms) h = go (offer rs m.node) refl (above_offers rs (m
         let same : q.node ≡ m.node = eqb-true q.node m.node (offer-among rs m.node q e).1 in
         (omega (arith, h.0), above_lower (q.node + 1) (m.node + 1) (map (λ (q : Request). q.node) rest) (omega arith) r)
 
-find_some : (rs : List Request) (q : Request) → Among rs q → has_request rs q.node ≡ true
+pub find_some : (rs : List Request) (q : Request) → Among rs q → has_request rs q.node ≡ true
 find_some [] q a = absurd a
 find_some (r ∷ rs) q (inl e) = rw (eq-eqb r.node q.node (ap {B = ℕ} (λ (x : Request). x.node) e)) refl
 find_some (r ∷ rs) q (inr a) = go (r.node == q.node) (find_some rs q a)

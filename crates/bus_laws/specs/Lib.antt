@@ -1,7 +1,11 @@
 pub mod Plays
 pub mod Moments
 pub mod Deliveries
+pub mod Queues
+pub mod Losers
 pub mod Starts
+pub mod Waits
+pub mod LineValues
 pub mod Winning
 pub mod Endings
 pub mod Answered
