@@ -1,11 +1,11 @@
--- What is due while no frame runs: a start, exactly where a request waits.
-use Rattle.std.proofs.Common.{◌≡◌, ℕ, List, [], ◌∷◌, Bool, true, false, Some, None, map, max, fold, ◌&&◌, ◌||◌, ap, ◌∙◌, arith, refl, filter}
+-- What is due: a finish while a frame runs, and else a start, exactly where a request waits.
+use Rattle.std.proofs.Common.{◌≡◌, ◌≤◌, ℕ, List, [], ◌∷◌, Bool, true, false, Option, Some, None, map, max, fold, ◌&&◌, ◌||◌, ap, sym, ◌∙◌, arith, refl, filter}
 use Rattle.std.specs.Prelude.{◌==◌, nat_lt}
 use Rattle.std.specs.List.{list_any}
 use Rattle.std.proofs.lemmas.List.Elements.{All-head}
 use Rattle.std.proofs.lemmas.Bool.{false≢true}
 use Rattle.bus_specs.specs.Bus.{Bus, Member, Request, Running, wants, has_request}
-use Rattle.bus_specs.specs.Due.{Due, sooner, least, precedes, rank, at, Start, Finish, starts, next_due}
+use Rattle.bus_specs.specs.Due.{Due, sooner, least, precedes, rank, at, Start, Finish, starts, dues, next_due}
 use Rattle.bus_medium.specs.Setups.{is_member, IsInOrder}
 
 not-before : (n : ℕ) → nat_lt n n ≡ false
@@ -76,3 +76,54 @@ due-start b now order idle some = rw idle (waits b.requests refl)
     waits (r ∷ rs) e = first-left (wants b) b.members (at Start (max now b.idle))
         (any-weaker (λ m. m.node == r.node) (wants b) b.members (λ m h. rw e (same-node r rs m h))
         (All-head (λ q. is_member b.members q.node ≡ true) r rs (rw e at order.placed)))
+
+module _ (b : Bus) (now : ℕ) (d : Due) where
+  some-start : (ms : List Member) → least (map (λ m. at Start (max now b.idle)) ms) ≡ Some d → d ≡ at Start (max now b.idle)
+  some-start [] h = cc
+  some-start (m ∷ ms) h = let same : Some (at Start (max now b.idle)) ≡ Some d = sym (least-equals (at Start (max now b.idle)) ms) ∙ h in cc
+
+  -- while no frame runs only a start is due, behind the intermission
+  pub due-idle : b.running ≡ None → next_due b now ≡ Some d → d ≡ at Start (max now b.idle)
+  unfolding next_due
+  due-idle idle due = some-start (filter (wants b) b.members) (rw idle at due)
+
+  started-again : (ms : List Member) → least (map (λ m. at Start (max now b.idle)) ms) ≡ Some d → least (map (λ m. at Start (max d.moment b.idle)) ms) ≡ Some d
+  started-again [] h = cc
+  started-again (m ∷ ms) h =
+      let e : d ≡ at Start (max now b.idle) = some-start (m ∷ ms) h in
+      let moment : d.moment ≡ max now b.idle = ap (λ x. x.moment) e in
+      let still : max d.moment b.idle ≡ max now b.idle = omega (arith, moment) in
+      least-equals (at Start (max d.moment b.idle)) ms ∙ ap (λ t. Some (at Start t)) still ∙ sym (ap (λ x. Some x) e)
+
+  due-by : (running : Option Running) → least (dues b now running) ≡ Some d → least (dues b d.moment running) ≡ Some d
+  due-by None h = started-again (filter (wants b) b.members) h
+  due-by (Some r) h = h
+
+  -- what is due is still due at its moment
+  pub due-still : next_due b now ≡ Some d → next_due b d.moment ≡ Some d
+  unfolding next_due
+  due-still due = due-by b.running due
+
+apart : (t u : ℕ) → at Finish t ≡ at Start u → ⊥
+apart t u e = let ranks : rank Finish ≡ rank Start = ap (λ d. rank d.what) e in omega (arith, ranks)
+
+-- a finish is due only while a frame runs
+pub finish-runs : (b : Bus) (now : ℕ) → next_due b now ≡ Some (at Finish now) → b.running ≡ None → ⊥
+finish-runs b now due idle = apart now (max now b.idle) (due-idle b now (at Finish now) idle due)
+
+-- a start is due only while no frame runs
+pub start-idle : (b : Bus) (now : ℕ) → next_due b now ≡ Some (at Start now) → b.running ≡ None
+start-idle b now due = by b.running refl
+  where
+    by : (o : Option Running) → b.running ≡ o → o ≡ None
+    by None e = refl
+    by (Some r) e =
+        let same : Some (at Finish r.end) ≡ Some (at Start now) = sym (due-finish b now r e) ∙ due in
+        absurd (apart r.end now cc)
+
+-- and behind the intermission
+pub start-rested : (b : Bus) (now : ℕ) → next_due b now ≡ Some (at Start now) → b.idle ≤ now
+start-rested b now due =
+    let e : at Start now ≡ at Start (max now b.idle) = due-idle b now (at Start now) (start-idle b now due) due in
+    let moment : now ≡ max now b.idle = ap (λ x. x.moment) e in
+    omega (arith, moment)

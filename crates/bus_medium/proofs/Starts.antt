@@ -1,11 +1,15 @@
 -- A start by the offers of the members.
-use Rattle.std.proofs.Common.{◌≡◌, ◌<◌, ◌≤◌, ◌+◌, ℕ, List, [], ◌∷◌, Bool, true, false, Option, Some, None, filter, filter_map, fold, ◌&&◌, ap, sym, ◌∙◌, arith, refl, subst, cond}
+use Rattle.std.proofs.Common.{◌≡◌, ◌≤◌, ◌+◌, ℕ, List, [], ◌∷◌, Bool, true, false, Option, Some, None, filter, filter_map, fold, ◌&&◌, ap, sym, ◌∙◌, arith, refl, subst, cond}
 use Rattle.std.specs.Prelude.{◌==◌, nat_le, is_some}
 use Rattle.std.specs.List.{cons_option}
-use Rattle.bus_specs.specs.Bus.{Bus, Member, Request, Running, choose, best, offer, offers, has_request, winner}
+use Rattle.bus_specs.specs.Bus.{Bus, Member, Request, Running, choose, best, offer, offers, has_request, wants, winner}
+use Rattle.bus_specs.specs.Due.{next_due, at}
+use Rattle.bus_specs.specs.Due as model
 use Rattle.bus_specs.specs.Start.{start, starts_with, started, start_lines}
 use Rattle.bus_specs.specs.Line.{Line, Start}
 use Rattle.bus_medium.specs.Offers.{offers_of, somes, losers_of, running_on}
+use Rattle.bus_medium.proofs.Dueness.{start-idle}
+use Rattle.std.proofs.lemmas.Bool.{false≢true}
 
 some-best : (rs : List Request) (r : Request) → is_some (fold choose (Some r) rs) ≡ true
 some-best [] r = refl
@@ -39,19 +43,8 @@ module _ (rs : List Request) (idle now : ℕ) where
   all-offers [] t = refl
   all-offers (m ∷ ms) t = one-offer m ms (offer rs m.node) refl t (all-offers ms t)
 
-  none-early : (ms : List Member) → nat_le idle now ≡ false → filter may ms ≡ []
-  none-early [] t = refl
-  none-early (m ∷ ms) t = rw (t, either (has_request rs m.node)) (none-early ms t)
-    where
-      either : (b : Bool) → (b && false) ≡ false
-      either true = refl
-      either false = refl
-
 le-test : (a b : ℕ) → a ≤ b → nat_le a b ≡ true
 le-test a b h = grind arith
-
-lt-test : (a b : ℕ) → b < a → nat_le a b ≡ false
-lt-test a b h = grind arith
 
 offers-are : (b : Bus) (now : ℕ) → b.idle ≤ now → offers b now ≡ somes (offers_of b.requests b.members)
 offers-are b now h = all-offers b.requests b.idle now b.members (le-test b.idle now h)
@@ -60,17 +53,26 @@ winner-is : (b : Bus) (now : ℕ) → b.idle ≤ now → winner b now ≡ best (
 unfolding winner
 winner-is b now h = ap best (offers-are b now h)
 
-winner-early : (b : Bus) (now : ℕ) → now < b.idle → winner b now ≡ None
-unfolding winner
-winner-early b now h = ap (λ ms. best (filter_map (λ m. offer b.requests m.node) ms)) (none-early b.requests b.idle now b.members (lt-test b.idle now h))
+wants-none : (b : Bus) (m : Member) (ms : List Member) (o : Option Request) → offer b.requests m.node ≡ o → (somes (offers_of b.requests ms) ≡ [] → filter (wants b) ms ≡ [])
+    → somes (o ∷ offers_of b.requests ms) ≡ [] → filter (wants b) (m ∷ ms) ≡ []
+wants-none b m ms None e rest none = let has : wants b m ≡ false = sym (has-offer b.requests m.node) ∙ ap is_some e in rw has (rest none)
+wants-none b m ms (Some r) e rest none = cc
 
-pub start-early : (b : Bus) (now : ℕ) → now < b.idle → start b now ≡ (b, [])
-unfolding start
-start-early b now h = ap (starts_with b now) (winner-early b now h)
+nobody-wants : (b : Bus) (ms : List Member) → somes (offers_of b.requests ms) ≡ [] → filter (wants b) ms ≡ []
+nobody-wants b [] h = refl
+nobody-wants b (m ∷ ms) h = wants-none b m ms (offer b.requests m.node) refl (nobody-wants b ms) h
 
-pub start-none : (b : Bus) (now : ℕ) → b.idle ≤ now → None ≡ best (somes (offers_of b.requests b.members)) → start b now ≡ (b, [])
-unfolding start
-start-none b now h e = ap (starts_with b now) (winner-is b now h ∙ sym e)
+best-none : (rs : List Request) → None ≡ best rs → rs ≡ []
+best-none [] h = refl
+best-none (r ∷ rs) h = absurd (false≢true (ap is_some h ∙ some-best rs r))
+
+-- where a start is due, some node offers a frame
+pub start-offered : (b : Bus) (now : ℕ) → next_due b now ≡ Some (at model.Start now) → None ≡ best (somes (offers_of b.requests b.members)) → ⊥
+unfolding next_due
+start-offered b now due e =
+    let none : filter (wants b) b.members ≡ [] = nobody-wants b b.members (best-none _ e) in
+    let same : None ≡ Some (at model.Start now) = rw (start-idle b now due, none) at due in
+    cc
 
 start-some : (b : Bus) (now : ℕ) (w : Request) → b.idle ≤ now → Some w ≡ best (somes (offers_of b.requests b.members))
     → start b now ≡ (started b now w, start_lines b now w)

@@ -1,12 +1,12 @@
 //! A bus, and what happens on it.
-ghost use Rattle.std.specs.Prelude.{◌≡◌, ◌≤◌, ◌<◌, ◌^◌, true, IfOk, IsSome, OnOk, OnErr, option_map, map, filter, not, ◌==◌, ◌&&◌};
+ghost use Rattle.std.specs.Prelude.{◌≡◌, ◌≤◌, ◌<◌, ◌^◌, true, Some, IfOk, IsSome, OnOk, OnErr, option_map, map, filter, not, ◌==◌, ◌&&◌};
 ghost use Rattle.std.specs.List.{count_by};
 ghost use Rattle.frame_specs.specs.Frame.{is_fd};
 ghost use Rattle.bus_specs.specs.Bus as model;
 ghost use Rattle.bus_specs.specs.Start.{start as start_of};
 ghost use Rattle.bus_specs.specs.Finish.{finish as finish_of};
 ghost use Rattle.bus_specs.specs.Submit.{submit as submit_of, Transmit};
-ghost use Rattle.bus_specs.specs.Due.{next_due as next_due_of};
+ghost use Rattle.bus_specs.specs.Due.{next_due as next_due_of, at, Start, Finish};
 ghost use Rattle.bus_medium.specs.Dues.{due_of};
 ghost use Rattle.bus_medium.specs.Lines.{line_of};
 ghost use Rattle.bus_medium.specs.Setups.{rise, is_member};
@@ -179,10 +179,12 @@ impl Medium {
         })
     }
 
-    /// The running frame has come to its end: it is delivered, and its request is removed.
-    /// Where no frame runs nothing happens. The bus is unchanged after want of memory.
+    /// The running frame has come to the end of its last bit, as is due at this moment: it is
+    /// delivered, its request is removed, and the intermission begins (ISO 11898-1). The bus is
+    /// unchanged after want of memory.
     #[tactic(auto, unfolding(bus_specs::specs::Finish::finish))]
     pub fn finish(&mut self, alloc: Global, now: u64) -> Result<LineList, AllocError>
+        requires due { next_due_of self.old now ≡ Some (at Finish now) }
         requires moment { now ≤ 2 ^ 63 }
         ensures state { OnOk result (self.new ≡ (finish_of self.old now).0) }
         ensures lines { IfOk result (λ lines. lines ≡ (finish_of self.old now).1) }
@@ -190,7 +192,7 @@ impl Medium {
     {
         let mut lines = Vec::with_capacity(alloc, 1)?;
         let Some(running) = self.running.take() else {
-            return Ok(LineList::of(lines));
+            unreachable!()
         };
         drop_request(&mut self.requests, running.sender, running.number);
         self.idle = now + self.nominal.bits(3);
@@ -205,27 +207,25 @@ impl Medium {
         Ok(LineList::of(lines))
     }
 
-    /// The frame that no other offer beats goes on the wire, and the other offers lose. Nothing
-    /// happens where no request waits, or before the end of the intermission. The bus is unchanged
-    /// after want of memory.
+    /// A start is due at this moment: no frame runs, a request waits, and the intermission is over,
+    /// so that the bus is idle. The nodes arbitrate (ISO 11898-1): the frame that no other offer
+    /// beats goes on the wire, and the other offers lose. The bus is unchanged after want of memory.
     #[tactic(auto, unfolding(bus_specs::specs::Start::start))]
     pub fn start(&mut self, alloc: Global, now: u64) -> Result<LineList, AllocError>
+        requires due { next_due_of self.old now ≡ Some (at Start now) }
         requires moment { now ≤ 2 ^ 62 }
         requires attempts { self.old.attempts < 2 ^ 63 }
         ensures state { OnOk result (self.new ≡ (start_of self.old now).0) }
         ensures lines { IfOk result (λ lines. lines ≡ (start_of self.old now).1) }
         ensures err { OnErr result (self.new ≡ self.old) }
     {
-        let mut lines = Vec::new(alloc);
-        if now < self.idle {
-            return Ok(LineList::of(lines));
-        }
         let offers = offers(alloc, &self.members, &self.requests)?;
         let Some(place) = winner(&self.requests, &offers) else {
-            return Ok(LineList::of(lines));
+            unreachable!()
         };
         let request = &self.requests[place];
         let running = running_of(alloc, &self.members, self.nominal, self.fast, now, request)?;
+        let mut lines = Vec::new(alloc);
         push_start(alloc, &mut lines, self.number, now, request)?;
         push_losers(
             alloc,

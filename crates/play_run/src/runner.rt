@@ -1,5 +1,5 @@
 //! A play that runs: its bus, the actions that are still ahead, and the last moment.
-ghost use Rattle.std.specs.Prelude.{◌≡◌, ◌≤◌, ◌<◌, ◌^◌, ◌++◌, IfOk, OnOk, IfSome, IfNone, option_map, option_to_list, length, []};
+ghost use Rattle.std.specs.Prelude.{◌≡◌, ◌≤◌, ◌<◌, ◌^◌, ◌++◌, ℕ, Some, IfOk, OnOk, IfSome, IfNone, option_map, option_to_list, length, []};
 ghost use Rattle.bus_specs.specs.History as model;
 ghost use Rattle.play_specs.specs.PlayText.{nodes_below};
 ghost use Rattle.play_run.specs.Events.{event_of};
@@ -128,9 +128,10 @@ impl Runner {
         Event::up_to(next, stop)
     }
 
-    /// Carries out one event, and gives its lines.
+    /// Carries out the next event, and gives its lines.
     pub fn step(&mut self, alloc: Global, event: Event) -> Result<LineList, AllocError>
         requires ready { IsReady (world_of self.old) }
+        requires next { (stop : ℕ) × (model.next_event stop (world_of self.old) ≡ Some (event_of event)) }
         requires moment { event.moment ≤ 2 ^ 62 }
         requires few { (world_of self.old).events < 2 ^ 62 }
         ensures world { OnOk result (world_of self.new ≡ model.after (world_of self.old) (event_of event)) }

@@ -1,45 +1,27 @@
-use Rattle.std.proofs.Common.{rules, ◌≡◌, ◌≤◌, ◌<◌, ◌∷◌, ◌++◌, ◌+◌, [], map, sym, ap, ◌∙◌, Some, None, slice_get}
+use Rattle.std.proofs.Common.{rules, ◌≡◌, ◌≤◌, ◌∷◌, ◌++◌, ◌+◌, [], map, sym, ap, ◌∙◌, Some, None, slice_get}
 use Rattle.std.proofs.lemmas.Option.{slice_get_read}
 use Rattle.bus_specs.specs.Bus.{Bus, best}
 use Rattle.bus_specs.specs.Line.{Start}
 use Rattle.bus_medium.specs.Lines.{line_of}
 use Rattle.bus_medium.specs.Offers.{request_at, offers_of, somes, losers_of, running_on}
-use Rattle.bus_medium.proofs.Starts.{start-early, start-none, start-state, start-log}
+use Rattle.bus_medium.proofs.Dueness.{start-rested}
+use Rattle.bus_medium.proofs.Starts.{start-offered, start-state, start-log}
 use Rattle.bus_medium.proofs.medium.Medium.start.Goals as goal
 
-pub returns-then-now-self-clause-state : goal.returns-then-now-self-clause-state
-returns-then-now-self-clause-state c =
-    let early : c.args.now < c.args.self.now.idle = rw (ap (λ b. b.idle) c.self.view_is) at c.if-now-self.true in
-    sym (ap (λ p. p.0) (start-early c.args.self.now c.args.now early))
-
-pub returns-then-now-self-clause-lines : goal.returns-then-now-self-clause-lines
-returns-then-now-self-clause-lines c =
-    let early : c.args.now < c.args.self.now.idle = rw (ap (λ b. b.idle) c.self.view_is) at c.if-now-self.true in
-    c.of.ensures ∙ ap (map line_of) c.new-lines.ensures.items ∙ sym (ap (λ p. p.1) (start-early c.args.self.now c.args.now early))
-
-pub returns-in_default-clause-state : goal.returns-in_default-clause-state
-returns-in_default-clause-state c =
-    let ready : c.args.self.now.idle ≤ c.args.now = rw (ap (λ b. b.idle) c.self.view_is) at c.if-now-self.false in
+pub unreachable-requires : goal.unreachable-requires
+unreachable-requires c =
+    let b = c.args.self.now in
     let offered : map (request_at c.self.inside.requests.items) c.in_ok-offers.offers.items ≡ offers_of c.self.inside.requests.items c.self.inside.members.items = search rules in
     let none : None ≡ best (somes (map (request_at c.self.inside.requests.items) c.in_ok-offers.offers.items)) = search rules in
-    let e : None ≡ best (somes (offers_of c.args.self.now.requests c.args.self.now.members)) =
-    none ∙ ap (λ os. best (somes os)) offered ∙ ap (λ b. best (somes (offers_of b.requests b.members))) c.self.view_is in
-    sym (ap (λ p. p.0) (start-none c.args.self.now c.args.now ready e))
-
-pub returns-in_default-clause-lines : goal.returns-in_default-clause-lines
-returns-in_default-clause-lines c =
-    let ready : c.args.self.now.idle ≤ c.args.now = rw (ap (λ b. b.idle) c.self.view_is) at c.if-now-self.false in
-    let offered : map (request_at c.self.inside.requests.items) c.in_ok-offers.offers.items ≡ offers_of c.self.inside.requests.items c.self.inside.members.items = search rules in
-    let none : None ≡ best (somes (map (request_at c.self.inside.requests.items) c.in_ok-offers.offers.items)) = search rules in
-    let e : None ≡ best (somes (offers_of c.args.self.now.requests c.args.self.now.members)) =
-    none ∙ ap (λ os. best (somes os)) offered ∙ ap (λ b. best (somes (offers_of b.requests b.members))) c.self.view_is in
-    c.of-in_default.ensures ∙ ap (map line_of) c.new-lines.ensures.items ∙ sym (ap (λ p. p.1) (start-none c.args.self.now c.args.now ready e))
+    let e : None ≡ best (somes (offers_of b.requests b.members)) =
+    none ∙ ap (λ os. best (somes os)) offered ∙ ap (λ v. best (somes (offers_of v.requests v.members))) c.self.view_is in
+    start-offered b c.args.now c.requires.due e
 
 pub returns-clause-state : goal.returns-clause-state
 returns-clause-state c =
     let w = c.index-request.result.now in
     let b = c.args.self.now in
-    let ready : b.idle ≤ c.args.now = rw (ap (λ v. v.idle) c.self.view_is) at c.if-now-self.false in
+    let ready : b.idle ≤ c.args.now = start-rested b c.args.now c.requires.due in
     let offered : map (request_at c.self.inside.requests.items) c.in_ok-offers.offers.items ≡ offers_of c.self.inside.requests.items c.self.inside.members.items =
     rw (c.deref-2.ensures.value, c.deref.ensures.value) at c.in_ok-offers.ensures.offers in
     let there : slice_get c.self.inside.requests.items c.in-Some.place ≡ Some w = search (rules, slice_get_read) in
@@ -57,7 +39,7 @@ pub returns-clause-lines : goal.returns-clause-lines
 returns-clause-lines c =
     let w = c.index-request.result.now in
     let b = c.args.self.now in
-    let ready : b.idle ≤ c.args.now = rw (ap (λ v. v.idle) c.self.view_is) at c.if-now-self.false in
+    let ready : b.idle ≤ c.args.now = start-rested b c.args.now c.requires.due in
     let offered : map (request_at c.self.inside.requests.items) c.in_ok-offers.offers.items ≡ offers_of c.self.inside.requests.items c.self.inside.members.items =
     rw (c.deref-2.ensures.value, c.deref.ensures.value) at c.in_ok-offers.ensures.offers in
     let there : slice_get c.self.inside.requests.items c.in-Some.place ≡ Some w = search (rules, slice_get_read) in
@@ -72,6 +54,6 @@ returns-clause-lines c =
     rw (view, c.deref-6.ensures.value, c.deref-7.ensures.value) at c.in_ok-push_losers.ensures in
     let os : map (request_at c.self.inside.requests.items) c.in_ok-offers.offers.items ≡ offers_of b.requests b.members = offered ∙ ap (λ v. offers_of v.requests v.members) c.self.view_is in
     let number : c.self.inside.number ≡ b.setup.number = ap (λ v. v.setup.number) c.self.view_is in
-    start-log b c.args.now w _ ready e (c.of-2.ensures ∙ rest ∙ ap (λ t. t ++ losers_of c.args.now c.self.inside.number w.node (somes (map (request_at c.self.inside.requests.items) c.in_ok-offers.offers.items))) first
+    start-log b c.args.now w _ ready e (c.of.ensures ∙ rest ∙ ap (λ t. t ++ losers_of c.args.now c.self.inside.number w.node (somes (map (request_at c.self.inside.requests.items) c.in_ok-offers.offers.items))) first
     ∙ ap (λ x. Start c.args.now c.self.inside.number w.node w.frame ∷ losers_of c.args.now c.self.inside.number w.node (somes x)) os
     ∙ ap (λ n. Start c.args.now n w.node w.frame ∷ losers_of c.args.now n w.node (somes (offers_of b.requests b.members))) number)
