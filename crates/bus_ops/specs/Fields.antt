@@ -1,4 +1,6 @@
--- How the code takes the bytes of one operation apart. No public clause cites this module.
+-- How the bytes of one operation are taken apart, as the code does it.
+-- Public clauses stand on it by way of items_in, as the clause `items` of read_ops does. That items_in gives the
+-- one reading of bytes below 256 is the law `bytes_have_a_reading`; what a reading is says nothing of this module.
 use Rattle.std.specs.Prelude.{ℕ, ◌==◌, ◌&&◌, Bool, true, false, List, [], ◌∷◌, length, Option, Some, None, option_and_then, option_map, nat_le, if◌then◌else◌}
 use Rattle.std.specs.Int.{w16, w32, from_le_bytes}
 use Rattle.frame_specs.specs.Frame.{Frame, Data, Remote, Fd, is_well_formed}

@@ -5,8 +5,11 @@ use can_frame::{Bytes, Frame};
 /// The fault confinement state that a node declares.
 #[derive(Clone, Copy, Debug, PartialEq, Eq)]
 pub enum Declared {
+    /// Error active: the node sends and receives, and marks errors by a flag of dominant bits.
     Active,
+    /// Error passive: the node sends and receives, and its error flag is recessive.
     Passive,
+    /// Bus off: the node takes no part in the bus.
     Off,
 }
 
@@ -59,6 +62,8 @@ pub enum Op {
 /// What stands in a list of bytes: an operation, or bytes that are none.
 #[derive(Drop)]
 pub enum Item {
+    /// The operation with exactly these bytes.
     Op(Op),
+    /// Bytes that spell no operation; FMI-LS-BUS has the format error to say so.
     Bad(Bytes),
 }

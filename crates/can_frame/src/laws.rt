@@ -1,5 +1,5 @@
 //! Laws of frames and their texts.
-ghost use Rattle.std.specs.Prelude.{◌≡◌, ◌<◌, ℕ, All, List, Some, true};
+ghost use Rattle.std.specs.Prelude.{◌≡◌, ◌<◌, ◌↔◌, ℕ, All, List, Some, true};
 ghost use Rattle.frame_specs.specs.Frame.{Frame as frame, is_well_formed};
 ghost use Rattle.frame_specs.specs.FrameText.{frame_text};
 ghost use Rattle.frame_specs.specs.FrameReading.{Spells, frame_of};
@@ -12,4 +12,9 @@ pub fn a_printed_frame_is_read_back()
 /// Two frames with one text are one frame.
 pub fn a_text_is_that_of_one_frame()
     ensures { (text : List ℕ) (f g : frame) → Spells text f → Spells text g → f ≡ g }
+{}
+
+/// A text is read as a frame exactly where it spells that frame.
+pub fn a_text_is_read_as_what_it_spells()
+    ensures { (text : List ℕ) (f : frame) → (frame_of text ≡ Some f) ↔ Spells text f }
 {}

@@ -84,11 +84,13 @@ pub struct Name {
 }
 
 impl Model for Name {
-    ghost use Rattle.std.specs.Prelude.{List, ℕ};
+    ghost use Rattle.std.specs.Prelude.{List, ℕ, ◌<◌, All};
 
     ghost Value = { List ℕ };
 
     ghost view = { λ n. n.items.items };
+
+    ghost invariant = { λ n. All (λ b. b < 128) n.items.items };
 }
 
 impl Name {
@@ -105,14 +107,16 @@ impl Name {
 
     /// The text as a slice.
     pub fn as_slice(&self) -> &[u8]
-        ensures { result.now ≡ self.now }
+        ensures text { result.now ≡ self.now }
+        ensures ascii { All (λ b. b < 128) result.now }
     {
         &self.items
     }
 
     /// The text as a vector.
     pub fn into_vec(self) -> Vec<u8>
-        ensures { result.items ≡ self }
+        ensures text { result.items ≡ self }
+        ensures ascii { All (λ b. b < 128) result.items }
     {
         self.items
     }

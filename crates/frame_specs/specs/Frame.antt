@@ -5,7 +5,7 @@ use Rattle.std.specs.List.{list_any}
 -- A classical data frame, a remote frame, or an FD frame with its bit rate switch (BRS) and its error state indicator (ESI).
 pub data Kind : Type 0 where
   Data Remote : Kind
-  Fd : Bool → Bool → Kind
+  Fd : (brs esi : Bool) → Kind
 
 -- identifier, extended format or base format, kind, data
 pub record Frame : Type 0 where

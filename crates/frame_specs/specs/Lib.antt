@@ -4,5 +4,4 @@ pub mod Wire
 pub mod Dominance
 pub mod FrameText
 pub mod FrameReading
-pub mod FrameReadingLaws
 pub mod WireValues

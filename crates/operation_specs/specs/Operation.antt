@@ -17,7 +17,7 @@ pub data Operation : Type 0 where
   FormatError : List ℕ → Operation
   Transmit FdTransmit : Frame → Operation
   Confirm ArbitrationLost : ℕ → Operation
-  BusError : ℕ → ℕ → Bool → Bool → Operation
+  BusError : (id kind : ℕ) (primary sender : Bool) → Operation
   Configuration : Parameter → Operation
   Status : Declared → Operation
   Wakeup Sleep : Operation

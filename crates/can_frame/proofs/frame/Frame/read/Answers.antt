@@ -2,7 +2,7 @@ use Rattle.std.proofs.Common.{◌≡◌, Option, Some, None, sym, ◌∙◌, Lis
 use Rattle.std.specs.Prelude.{IfSome}
 use Rattle.frame_specs.specs.Frame.{Frame}
 use Rattle.frame_specs.specs.FrameReading.{Spells, frame_of}
-use Rattle.frame_specs.specs.FrameReadingLaws.{frame_of_from_spells, spells_from_frame_of}
+use Rattle.frame_specs.proofs.FrameReadingLaws.{frame_of_from_spells, spells_from_frame_of}
 use Rattle.can_frame.proofs.frame.Frame.read.Goals as goal
 
 found : (text : List ℕ) (answer : Option Frame) → answer ≡ frame_of text → IfSome answer (λ f. Spells text f)
