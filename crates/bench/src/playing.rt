@@ -7,7 +7,7 @@ ghost use Rattle.bench_outside.specs.declared.refusal.FileId.{FileId};
 ghost use Rattle.bench_outside.specs.declared.refusal.Refusal.{Refusal};
 ghost use Rattle.bench.specs.Statuses.{WritesNothing};
 ghost use Rattle.bench.specs.Refusals.{main_refusal, refusal_in};
-ghost use Rattle.bench.specs.Plays.{IsPlayed, IsPartlyPlayed};
+ghost use Rattle.bench.specs.Plays.{IsPlayed, IsPartlyPlayed, WritesLineByLine};
 
 use crate::status::Status;
 use bench_outside::{FileId, Refusal, Sink, Why};
@@ -36,6 +36,8 @@ pub(crate) fn play<O: Sink>(alloc: Global, budget: u64, bytes: &[u8], out: &mut 
     ensures read { (file : FileId) → result ≢ Status.Unread file }
 
     // What is written, and which fault is answered.
+    ensures made { (result ≡ Status.Done) ⊎ (result ≡ Status.Spent)
+        → WritesLineByLine budget (O.writes out.old) (O.writes out.new) bytes.now }
     ensures part { (result ≡ Status.Unwritten) ⊎ (result ≡ Status.Memory)
         → IsPartlyPlayed budget (O.written out.old) (O.written out.new) bytes.now }
     ensures untouched { WritesNothing result → out.new ≡ out.old }

@@ -1,5 +1,6 @@
 //! What no clause says: the texts of whole logs, which come from outside this program, and that calls
 //! succeed with ample memory.
+use crate::playing::play;
 use crate::status::Status;
 use crate::top::bench;
 use bench_outside::{FileId, MemShelf, MemSink, Refusal, Why};
@@ -131,6 +132,18 @@ fn the_log_of_two_frames(rt: HostRuntime) -> Result<(), Fail> {
     for (lines, log) in plays {
         expect_play(&rt, rt.alloc(), lines, (Status::Done, log, ""))?;
     }
+    Ok(())
+}
+
+#[test]
+fn a_budget_of_two_events_is_spent(rt: HostRuntime) -> Result<(), Fail> {
+    let file = format!(in rt.alloc(); "{HEADER}0 0 send 000#\n")?;
+    assert!(rt; file.len() < 1024);
+    let mut out = MemSink::new(rt.alloc(), 1024)?;
+    let status = play(rt.alloc(), 2, file.as_bytes(), &mut out);
+    let log = "0 0 req 0 000#\n0 0 start 0 000#\nend 8 2\n";
+    assert_eq!(rt; status, Status::Spent);
+    assert_eq!(rt; out.written(), log.as_bytes());
     Ok(())
 }
 

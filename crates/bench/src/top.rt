@@ -11,7 +11,7 @@ ghost use Rattle.bench_outside.specs.declared.refusal.Refusal.{Refusal};
 ghost use Rattle.bench.specs.Words.{file_of as file_in, OfFile};
 ghost use Rattle.bench.specs.Statuses.{WritesNothing};
 ghost use Rattle.bench.specs.Refusals.{refusal_of};
-ghost use Rattle.bench.specs.Plays.{IsPlayed, IsPartlyPlayed};
+ghost use Rattle.bench.specs.Plays.{IsPlayed, IsPartlyPlayed, WritesLineByLine};
 ghost use Rattle.bench.specs.Report.{report_text};
 
 use crate::fetching::{FetchError, fetch};
@@ -72,7 +72,11 @@ pub fn bench<H: Shelf, O: Sink, R: Sink>(
     ensures kept { (result ≡ Status.Done) ⊎ (result ≡ Status.Spent)
         → O.faults out.new ≡ O.faults out.old }
 
-    // What is written: a first part of the log, and nothing where the file is refused.
+    // What is written: each line of the log by one write, or else a first part of it, and nothing
+    // where the file is refused.
+    ensures made { (result ≡ Status.Done) ⊎ (result ≡ Status.Spent)
+        → OfFile (H.holds shelf.old) (file_in (map string_bytes words.now))
+        (WritesLineByLine BUDGET (O.writes out.old) (O.writes out.new)) }
     ensures part { (result ≡ Status.Unwritten) ⊎ (result ≡ Status.Memory)
         → OfFile (H.holds shelf.old) (file_in (map string_bytes words.now))
         (IsPartlyPlayed BUDGET (O.written out.old) (O.written out.new)) }

@@ -1,7 +1,7 @@
 -- A shelf in memory: its files, and what its calls do to it.
 -- No clause of `Shelf` cites this.
-use Rattle.std.specs.Prelude.{ℕ, List, [], ◌∷◌, Option, Some, None, Result, Err, if◌then◌else◌}
-use Rattle.std.specs.Prelude.{option_map, unwrap_or, take, bytes_eq}
+use Rattle.std.specs.Prelude.{◌≡◌, ℕ, List, [], ◌∷◌, Option, Some, None, Result, Ok, Err, refl}
+use Rattle.std.specs.Prelude.{if◌then◌else◌, option_map, unwrap_or, take, bytes_eq, codes}
 use Rattle.std.specs.Option.{ok_or}
 use Rattle.bench_outside.specs.declared.shelf.ShelfError.{ShelfError}
 use Rattle.bench_outside.specs.declared.shelf.ShelfError.TheVariants.{Failed}
@@ -60,3 +60,19 @@ with_write shelf name bytes =
 -- after a write of this name that failed: every file is as before
 abbrev pub with_failed_write : MemShelf → List ℕ → MemShelf
 with_failed_write shelf name = record shelf { writes = with_failed_call shelf.writes name }
+
+-- two files, the first of which was written twice
+abbrev two_files : MemShelf
+two_files =
+    let first = with_write empty_shelf (codes "a") (1 ∷ []) in
+    let second = with_write first (codes "b") (2 ∷ 3 ∷ []) in
+    with_write second (codes "a") (4 ∷ 5 ∷ 6 ∷ [])
+
+written_twice : two_files.files ≡ (codes "a", 4 ∷ 5 ∷ 6 ∷ []) ∷ (codes "b", 2 ∷ 3 ∷ []) ∷ []
+written_twice = refl
+
+first_two_bytes : read_answer two_files (codes "a") 2 ≡ Ok (4 ∷ 5 ∷ [])
+first_two_bytes = refl
+
+no_such_file : read_answer two_files (codes "c") 2 ≡ Err Failed
+no_such_file = refl

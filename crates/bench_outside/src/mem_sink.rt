@@ -2,7 +2,7 @@
 ghost use Rattle.std.specs.Prelude.{◌≡◌, ◌≤◌, ◌+◌, List, ℕ, Some, ◌++◌, if◌then◌else◌, nat_le};
 ghost use Rattle.std.specs.Prelude.{length, vec_len, vec_capacity, is_ok, IfOk, OnOk, OnErr};
 ghost use Rattle.bench_outside.specs.Causes.{HasCause};
-ghost use Rattle.bench_outside.specs.Sink.{Appended, IsPrefix, AppendedPart};
+ghost use Rattle.bench_outside.specs.Sink.{Appended, IsPrefix, AppendedPart, Counted};
 ghost use Rattle.bench_outside.specs.MemSink.{empty_sink, with_failing, kept_at, kept_part, succeeds, after_write};
 
 use crate::{Failed, Sink};
@@ -116,6 +116,8 @@ impl Sink for MemSink {
 
     ghost faults = { λ s. s.faults };
 
+    ghost writes = { λ s. Some s.made };
+
     fn write(&mut self, bytes: &[u8]) -> Result<(), Failed>
         // Which write fails, and what it leaves.
         ensures answer { is_ok result ≡ succeeds self.old bytes.now }
@@ -127,6 +129,7 @@ impl Sink for MemSink {
         ensures part { OnErr result
             (AppendedPart (Some self.old.bytes) (Some self.new.bytes) bytes.now) }
         ensures cause { HasCause self.old.faults self.new.faults result }
+        ensures made { Counted (Some self.old.made) (Some self.new.made) 1 }
     {
         self.made = self.made.saturating_add(1);
         let kept = kept_at(&self.failing, self.made);

@@ -3,7 +3,7 @@ ghost use Rattle.std.specs.Prelude.{◌≡◌, None, OnOk, OnErr, IfOk, ◌<◌,
 ghost use Rattle.std.specs.Io.{WritesAtMost};
 ghost use Rattle.std.specs.Io.KnownBytes.{Appends, WriteAppends};
 ghost use Rattle.bench_outside.specs.Causes.{HasCause};
-ghost use Rattle.bench_outside.specs.Sink.{Appended, AppendedPart};
+ghost use Rattle.bench_outside.specs.Sink.{Appended, AppendedPart, Counted};
 ghost use Rattle.bench_outside.specs.Files.{AppendsPart};
 
 use crate::{Failed, Sink};
@@ -57,6 +57,8 @@ impl<W: Write + Drop> Sink for OutSink<W> {
 
     ghost faults = { λ s. s.faults };
 
+    ghost writes = { λ s. None };
+
     fn write(&mut self, bytes: &[u8]) -> Result<(), Failed>
         // The writer takes all of the bytes, or at a failure a first part, as far as it tells.
         ensures through { OnOk result
@@ -68,6 +70,7 @@ impl<W: Write + Drop> Sink for OutSink<W> {
         ensures appended { OnOk result (Appended None None bytes.now) }
         ensures part { OnErr result (AppendedPart None None bytes.now) }
         ensures cause { HasCause self.old.faults self.new.faults result }
+        ensures made { Counted None None 1 }
     {
         let mut at = 0;
         while at < bytes.len() {

@@ -1,13 +1,13 @@
--- What is written and what is left of a log.
-use Rattle.std.proofs.Common.{◌≡◌, ◌≤◌, ◌<◌, ◌+◌, ℕ, Bool, true, false, List, [], ◌∷◌, ◌++◌, Option, Some, None, map, take, drop, length, get_or, refl, sym, ap, append_assoc, ◌∙◌, arith}
+-- What is written and what is left of a log: its text, and how many lines.
+use Rattle.std.proofs.Common.{◌≡◌, ◌≤◌, ◌<◌, ◌+◌, ℕ, Bool, true, false, List, [], ◌∷◌, ◌++◌, Option, Some, None, map, take, drop, length, get_or, refl, sym, ap, append_assoc, ◌∙◌, arith, ◌-◌, zero, suc, length-append}
 use Rattle.std.specs.Prelude.{nat_le, if◌then◌else◌}
 use Rattle.std.proofs.lemmas.Bool.Decides.{nat_tests}
 use Rattle.std.proofs.lemmas.Grind.{flat_map-append}
 use Rattle.std.proofs.lemmas.List.{map-append, at_drop_more, take-append-drop}
 use Rattle.bus_specs.specs.Line.{Line, line_text, log_text, End}
 use Rattle.bus_specs.specs.Due.{Due, next_due}
-use Rattle.bus_specs.specs.History.{World, next_event, up_to, or_file, run_from, status_from}
-use Rattle.bus_specs.specs.HistorySteps.{run-end, run-spent, status-end, status-spent}
+use Rattle.bus_specs.specs.History.{World, next_event, lines_of, after, up_to, or_file, run_from, status_from}
+use Rattle.bus_specs.specs.HistorySteps.{run-event, run-end, run-spent, status-end, status-spent}
 
 module _ {L : Type 0} (line_of : L → Line) where
   abbrev text : List L → List ℕ
@@ -59,3 +59,30 @@ done-text stop left events w so_far all count next whole =
 
 pub done-status : (stop left : ℕ) (w : World) (all : ℕ) → next_event stop w ≡ None → status_from stop left w ≡ all → 0 ≡ all
 done-status stop left w all next whole = sym (status-end stop left w next) ∙ whole
+
+-- how many lines an event and those behind it have
+count-event : (stop left : ℕ) (w : World) (d : Due) (so_far all : ℕ) → next_event stop w ≡ Some d
+    → so_far + length (run_from stop (suc left) w) ≡ all
+    → (so_far + length (lines_of w d)) + length (run_from stop left (after w d)) ≡ all
+count-event stop left w d so_far all next whole =
+    let both : length (run_from stop (suc left) w) ≡ length (lines_of w d) + length (run_from stop left (after w d)) =
+    ap length (run-event stop left w d next) ∙ length-append (lines_of w d) (run_from stop left (after w d)) in
+    omega (arith, both, whole)
+
+pub count-next : (stop left : ℕ) (w : World) (d : Due) (so_far all : ℕ) → 0 < left → next_event stop w ≡ Some d
+    → so_far + length (run_from stop left w) ≡ all
+    → (so_far + length (lines_of w d)) + length (run_from stop (left - 1) (after w d)) ≡ all
+count-next stop zero w d so_far all more next whole = absurd (omega arith)
+count-next stop (suc k) w d so_far all more next whole =
+    let k_is : suc k - 1 ≡ k = omega arith in rw k_is (count-event stop k w d so_far all next whole)
+
+pub spent-count : (stop left : ℕ) (w : World) (d : Due) (so_far all : ℕ) → left ≡ 0 → next_event stop w ≡ Some d
+    → so_far + length (run_from stop left w) ≡ all → so_far + 1 ≡ all
+spent-count stop left w d so_far all none next whole =
+    let last : length (run_from stop left w) ≡ 1 = ap (λ n. length (run_from stop n w)) none ∙ ap length (run-spent stop w d next) in
+    omega (arith, last, whole)
+
+pub done-count : (stop left : ℕ) (w : World) (so_far all : ℕ) → next_event stop w ≡ None
+    → so_far + length (run_from stop left w) ≡ all → so_far + 1 ≡ all
+done-count stop left w so_far all next whole =
+    let last : length (run_from stop left w) ≡ 1 = ap length (run-end stop left w next) in omega (arith, last, whole)

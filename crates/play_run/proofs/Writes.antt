@@ -1,8 +1,9 @@
 -- One write behind another.
-use Rattle.std.proofs.Common.{◌≡◌, ℕ, List, [], ◌++◌, Option, Some, None, refl, sym, ap, append_assoc, ◌∙◌}
+use Rattle.std.proofs.Common.{◌≡◌, ℕ, ◌+◌, List, [], ◌++◌, Option, Some, None, refl, sym, ap, append_assoc, ◌∙◌, arith}
 use Rattle.std.proofs.lemmas.List.{append-nil}
 use Rattle.std.specs.Prelude.{Result, Ok, Err, OnOk, OnErr, IfOk}
-use Rattle.bench_outside.specs.Sink.{Appended, AppendedPart}
+use Rattle.bench_outside.specs.Causes.{count_after}
+use Rattle.bench_outside.specs.Sink.{Appended, AppendedPart, Counted}
 
 pub nothing-written : (o : Option (List ℕ)) → Appended o o []
 nothing-written None = refl
@@ -34,6 +35,18 @@ last-write first second third a b all p whole q = rw (← whole) (appended-twice
 
 pub last-part : (first second third : Option (List ℕ)) (a b all : List ℕ) → Appended first second a → a ++ b ≡ all → AppendedPart second third b → AppendedPart first third all
 last-part first second third a b all p whole q = part-behind first second third a b [] all p q (append-nil (a ++ b) ∙ whole)
+
+count_after-twice : (count a b : ℕ) → count_after (count_after count a) b ≡ count_after count (a + b)
+count_after-twice count a b = omega arith
+
+-- counting some writes and then more is counting all of them
+pub counted-twice : (first second third : Option ℕ) (a b : ℕ) → Counted first second a → Counted second third b → Counted first third (a + b)
+counted-twice None second third a b p q = rw (q, p) refl
+counted-twice (Some n) second third a b p q = rw (q, p) (ap (λ m. Some m) (count_after-twice n a b))
+
+-- the last writes, behind those that were counted
+pub last-counted : (first second third : Option ℕ) (a b all : ℕ) → Counted first second a → a + b ≡ all → Counted second third b → Counted first third all
+last-counted first second third a b all p whole q = rw (← whole) (counted-twice first second third a b p q)
 
 pub on_ok : {T E : Type 0} {P Q : Type 0} (r : Result T E) → (P → Q) → OnOk r P → OnOk r Q
 on_ok (Ok x) f h = f h

@@ -2,9 +2,9 @@
 ghost use Rattle.std.specs.Prelude.{◌≡◌, ◌≤◌, ◌<◌, ◌+◌, ◌^◌, ◌∷◌, [], length, IfOk, OnOk, OnErr, IsErrOf};
 ghost use Rattle.bus_specs.specs.Line.{log_text};
 ghost use Rattle.bus_specs.specs.Line as log;
-ghost use Rattle.bus_specs.specs.History.{play_log, play_status, run_from, status_from};
+ghost use Rattle.bus_specs.specs.History.{play_lines, play_log, play_status, run_from, status_from};
 ghost use Rattle.bench_outside.specs.Causes.{Rose};
-ghost use Rattle.bench_outside.specs.Sink.{Appended, AppendedPart};
+ghost use Rattle.bench_outside.specs.Sink.{Appended, AppendedPart, Counted};
 ghost use Rattle.play_run.specs.Endings.{code_of};
 ghost use Rattle.play_run.specs.Ready.{IsReady};
 ghost use Rattle.play_run.specs.Worlds.{world_of};
@@ -25,6 +25,7 @@ fn write_end<O: Sink>(
     out: &mut O,
 ) -> Result<Ending, RunError>
     ensures log { OnOk result (Appended (O.written out.old) (O.written out.new) (log_text (log.End (code_of ending) events ∷ []))) }
+    ensures made { OnOk result (Counted (O.writes out.old) (O.writes out.new) 1) }
     ensures ending { IfOk result (λ e. e ≡ ending) }
     ensures part { OnErr result (AppendedPart (O.written out.old) (O.written out.new) (log_text (log.End (code_of ending) events ∷ []))) }
     ensures unwritten { IsErrOf result RunError.Unwritten → Rose (O.faults out.old) (O.faults out.new) }
@@ -52,6 +53,7 @@ fn run_on<O: Sink>(
     requires stop { stop ≤ 2 ^ 62 }
     requires budget { (world_of runner).events + budget < 2 ^ 62 }
     ensures log { OnOk result (Appended (O.written out.old) (O.written out.new) (log_text (run_from stop budget (world_of runner)))) }
+    ensures made { OnOk result (Counted (O.writes out.old) (O.writes out.new) (length (run_from stop budget (world_of runner)))) }
     ensures ending { IfOk result (λ e. code_of e ≡ status_from stop budget (world_of runner)) }
     ensures part { OnErr result (AppendedPart (O.written out.old) (O.written out.new) (log_text (run_from stop budget (world_of runner)))) }
     ensures unwritten { IsErrOf result RunError.Unwritten → Rose (O.faults out.old) (O.faults out.new) }
@@ -78,6 +80,7 @@ pub fn run<O: Sink>(alloc: Global, budget: u64, play: Play, out: &mut O) -> Resu
     requires few { length play.actions < 2 ^ 63 }
     requires budget { budget < 2 ^ 62 }
     ensures log { OnOk result (Appended (O.written out.old) (O.written out.new) (play_log budget play)) }
+    ensures made { OnOk result (Counted (O.writes out.old) (O.writes out.new) (length (play_lines budget play))) }
     ensures ending { IfOk result (λ e. code_of e ≡ play_status budget play) }
     ensures part { OnErr result (AppendedPart (O.written out.old) (O.written out.new) (play_log budget play)) }
     ensures unwritten { IsErrOf result RunError.Unwritten → Rose (O.faults out.old) (O.faults out.new) }
