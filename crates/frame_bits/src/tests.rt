@@ -49,6 +49,7 @@ fn frames_have_the_lengths_and_times_of_the_table(rt: HostRuntime) -> Result<(),
         let bytes = bytes_of(rt.alloc(), size, first, more)?;
         let f = Frame::new(id, ext == 1, kind_of(kind), bytes).expect(&rt, "well formed");
         assert_eq!(rt; stuffed_len(&f), stuffed, "{id}");
+        assert_eq!(rt; bits(rt.alloc(), &f)?.len(), stuffed as usize, "{id}");
         let length = wire_len(&f);
         assert_eq!(rt; length, wire, "{id}");
         assert_eq!(rt; duration(&f, nominal, fast), u64::from(ticks), "{id}");
