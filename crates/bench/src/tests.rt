@@ -147,6 +147,24 @@ fn a_budget_of_two_events_is_spent(rt: HostRuntime) -> Result<(), Fail> {
     Ok(())
 }
 
+/// Memory is ample for a play that is longer than its queues.
+#[test]
+fn a_play_of_three_hundred_frames(rt: HostRuntime) -> Result<(), Fail> {
+    let mut file = String::from_str(rt.alloc(), "play 1000000000 500000 0 2 100000000\n")?;
+    for frame in 0..300u64 {
+        let moment = frame * 200_000;
+        let node = frame % 2;
+        let line = format!(in rt.alloc(); "{moment} {node} send 000#\n")?;
+        file.push_str(line.as_str())?;
+    }
+    assert!(rt; file.len() < 65_536);
+    let mut out = MemSink::new(rt.alloc(), 65_536)?;
+    let status = play(rt.alloc(), 1_000_000, file.as_bytes(), &mut out);
+    assert_eq!(rt; status, Status::Done);
+    assert!(rt; out.written().ends_with(b"end 0 900\n"));
+    Ok(())
+}
+
 #[test]
 fn refusals_and_their_report(rt: HostRuntime) -> Result<(), Fail> {
     let files = [
