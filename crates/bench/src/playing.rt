@@ -44,8 +44,7 @@ pub(crate) fn play<O: Sink>(alloc: Global, budget: u64, bytes: &[u8], out: &mut 
     ensures spared { (r : Refusal) → refusal_in (play_of bytes.now) ≡ Some r
         → out.new ≡ out.old }
     ensures unwritten { result ≡ Status.Unwritten → Rose (O.faults out.old) (O.faults out.new) }
-    ensures kept { (result ≡ Status.Done) ⊎ (result ≡ Status.Spent)
-        → O.faults out.new ≡ O.faults out.old }
+    ensures kept { (result ≡ Status.Unwritten) ⊎ (O.faults out.new ≡ O.faults out.old) }
 {
     let play = match read_play(alloc, bytes) {
         Ok(play) => play,

@@ -69,8 +69,7 @@ pub fn bench<H: Shelf, O: Sink, R: Sink>(
     ensures unblamed { (result ≡ Status.Unread FileId.Main)
         ⊎ (H.read_faults shelf.new ≡ H.read_faults shelf.old) }
     ensures unwritten { result ≡ Status.Unwritten → Rose (O.faults out.old) (O.faults out.new) }
-    ensures kept { (result ≡ Status.Done) ⊎ (result ≡ Status.Spent)
-        → O.faults out.new ≡ O.faults out.old }
+    ensures kept { (result ≡ Status.Unwritten) ⊎ (O.faults out.new ≡ O.faults out.old) }
 
     // What is written: each line of the log by one write, or else a first part of it, and nothing
     // where the file is refused.
