@@ -1,8 +1,8 @@
 #!/usr/bin/env python3
 """A second implementation of `bench play FILE`, which takes nothing from the crates.
 
-It follows docs/FORMATS.md and docs/BUS.md: the text of a play file, frames bit by bit (ISO 11898-1),
-arbitration, and the order of events. `compare.py` compares it with the program.
+It has the text of a play file, frames bit by bit (ISO 11898-1), arbitration and the order of events, which
+docs/FORMATS.md and docs/BUS.md describe. `compare.py` compares it with the program.
 """
 import heapq
 import os
