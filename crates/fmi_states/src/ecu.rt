@@ -1,8 +1,8 @@
 //! The trait of a unit over a value that it shares with others.
-ghost use Rattle.std.specs.Prelude.{◌≡◌, ℕ, List, Option, IsTrue, IfOk, OnOk};
+ghost use Rattle.std.specs.Prelude.{◌≡◌, ◌≢◌, ℕ, List, Option, None, IsTrue, IfOk, OnOk};
 ghost use Rattle.fmi_states.specs.Phase.{is_permitted, next_phase};
 ghost use Rattle.fmi_states.specs.Reply.{is_suitable};
-ghost use Rattle.fmi_states.specs.Parts.{Spares, Shares};
+ghost use Rattle.fmi_states.specs.Parts.{Among, Spares, Shares};
 ghost use Rattle.fmi_states.specs.declared.phase.Phase.{Phase};
 ghost use Rattle.fmi_states.specs.declared.call.Call.{Call};
 ghost use Rattle.fmi_states.specs.declared.reply.Reply.{Reply};
@@ -73,6 +73,10 @@ pub trait Ecu: Drop {
     /// Whether its parts are there depends on the unit and these parts alone.
     ghost in_by_parts: { (e : Self) (s t : Self.Shared) → is_in e s → Shares part (parts e) s t
         → is_in e t };
+
+    /// A part that a unit owns is there where the unit is.
+    ghost part_is_there: { (e : Self) (s : Self.Shared) (p : ℕ) → is_in e s → Among p (parts e)
+        → part p s ≢ None };
 
     /// A permitted call moves the phase by the table.
     ghost moves: { (s : Self.State) (c : Call) → IsTrue (is_permitted (phase_of s) c)

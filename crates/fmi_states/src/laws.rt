@@ -1,7 +1,7 @@
 //! What follows from the definitions: each contract here is a law, and each body is empty.
-ghost use Rattle.std.specs.Prelude.{◌≡◌, IsTrue};
+ghost use Rattle.std.specs.Prelude.{◌≡◌, ℕ, List, None, IsTrue};
 ghost use Rattle.fmi_states.specs.Phase.{is_permitted, next_phase};
-ghost use Rattle.fmi_states.specs.Parts.{Spares, AreDisjoint};
+ghost use Rattle.fmi_states.specs.Parts.{Among, Spares, AreDisjoint};
 ghost use Rattle.fmi_states.specs.declared.phase.Phase.{Phase};
 ghost use Rattle.fmi_states.specs.declared.phase.Phase.TheVariants.{Failed, Gone};
 ghost use Rattle.fmi_states.specs.declared.call.Call.{Call};
@@ -40,4 +40,10 @@ pub fn other_units_stay<E: Ecu>()
         → E.state other t ≡ E.state other s }
     ensures here { (e other : E) (s t : E.Shared) → Spares E.part (E.parts e) s t
         → AreDisjoint (E.parts e) (E.parts other) → E.is_in other s → E.is_in other t }
+{}
+
+/// Parts that weren't there before are none of a unit that was there.
+pub fn new_parts_are_apart<E: Ecu>()
+    ensures { (e : E) (own : List ℕ) (s : E.Shared) → E.is_in e s
+        → ((p : ℕ) → Among p own → E.part p s ≡ None) → AreDisjoint own (E.parts e) }
 {}

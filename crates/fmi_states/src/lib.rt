@@ -16,7 +16,7 @@ pub use ecu::Ecu;
 pub use in_turn::{RepliesInTurn, call_in_turn};
 pub use laws::{
     a_broken_unit_is_gone, a_failed_unit_is_only_freed, a_freed_unit_is_gone,
-    a_gone_unit_takes_no_call, other_units_stay,
+    a_gone_unit_takes_no_call, new_parts_are_apart, other_units_stay,
 };
 pub use list_ecu::ListEcu;
 pub use phase::{Phase, next, permitted};

@@ -54,7 +54,9 @@ impl ListEcu {
 }
 
 impl Ecu for ListEcu {
-    ghost use Rattle.std.specs.Prelude.{[], None, refl};
+    ghost use Rattle.std.specs.Prelude.{◌≡◌, [], None, refl, IsOk, IfOk, IsTrue};
+    ghost use Rattle.fmi_states.specs.Phase.{next_phase, is_permitted};
+    ghost use Rattle.fmi_states.specs.Reply.{is_suitable};
     ghost use Rattle.fmi_states.specs.ListEcu.{list_answer, reply_from_suits};
 
     type Shared = ();
@@ -78,7 +80,13 @@ impl Ecu for ListEcu {
     }
 
     #[tactic(auto, using(crate::specs::ListEcu::reply_from_suits))]
-    fn call(&mut self, _alloc: Global, _shared: &mut (), call: &Call) -> Result<Reply, AllocError> {
+    fn call(&mut self, _alloc: Global, _shared: &mut (), call: &Call) -> Result<Reply, AllocError>
+        requires permitted { IsTrue (is_permitted self.old.phase call.now) }
+        ensures taken { IsOk result }
+        ensures answer { IfOk result (λ reply. list_answer self.old call.now ≡ (reply, self.new)) }
+        ensures phase { IfOk result (λ reply. self.new.phase ≡ next_phase self.old.phase call.now reply) }
+        ensures suits { IfOk result (λ reply. IsTrue (is_suitable call.now reply)) }
+    {
         let reply = self.take(call);
         self.phase = next(self.phase, call, &reply);
         Ok(reply)
@@ -87,6 +95,8 @@ impl Ecu for ListEcu {
     ghost state_by_parts = { λ e s t here shares. refl };
 
     ghost in_by_parts = { λ e s t here shares. tt };
+
+    ghost part_is_there = { λ e s p here among. absurd among };
 
     ghost moves = { λ s c permitted. refl };
 
