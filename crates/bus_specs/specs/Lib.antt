@@ -1,9 +1,10 @@
-pub mod Line
+pub mod Counters
 pub mod Bus
+pub mod Submit
+pub mod Inbox
 pub mod Start
 pub mod Finish
-pub mod Submit
 pub mod Due
-pub mod History
-pub mod HistorySteps
-pub mod Runs
+pub mod Sound
+pub mod InTime
+pub mod Waits

@@ -1,2 +1,3 @@
-//! One bus and the run of a play on it, as definitions that other crates cite. There is no code here.
+//! One CAN bus and what holds of it in every history, as definitions that other crates cite. There is no code
+//! here.
 #![tactic(auto)]

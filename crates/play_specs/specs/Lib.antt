@@ -1,3 +1,2 @@
 pub mod Text
-pub mod PlayText
-pub mod PlayValues
+pub mod Scenario

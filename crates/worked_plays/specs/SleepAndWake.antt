@@ -1,0 +1,46 @@
+-- sleep and wakeup
+use Rattle.std.specs.Prelude.{◌≡◌, ℕ, false, List, [], ◌∷◌, ◌++◌, Some, codes, refl}
+use Rattle.std.specs.Fmt.{digits}
+use Rattle.frame_specs.specs.Frame.{Data}
+use Rattle.frame_specs.specs.Wire.{stuff, stuff_open, stuffed, time_of, duration}
+use Rattle.frame_specs.specs.Dominance.{beats}
+use Rattle.operation_specs.specs.Operation.{Transmit, Wakeup, Sleep}
+use Rattle.operation_specs.specs.Reading.{Op}
+use Rattle.bus_specs.specs.Bus.{winner}
+use Rattle.bus_specs.specs.Start.{course, start}
+use Rattle.bus_specs.specs.Finish.{finish, recover}
+use Rattle.bus_specs.specs.Submit.{submission_of, submit}
+use Rattle.bus_specs.specs.Inbox.{take_inbox}
+use Rattle.log_specs.specs.Line.{line_text}
+use Rattle.bus_specs.specs.Due.{next_due}
+use Rattle.run_specs.specs.Run.{behind, head}
+use Rattle.play_specs.specs.Scenario.{Scenario, next_event, scenario_log}
+
+abbrev line : List ℕ → List ℕ
+line text = text ++ 10 ∷ []
+
+abbrev play : Scenario
+play = record {
+  setup = record { number = 0; nominal = 2000; data_bit_time = Some 500; rate = 500000; fd_rate = Some 2000000; errors = [] };
+  nodes = 0 ∷ 1 ∷ 2 ∷ [];
+  stop = 1000000;
+  actions = record { moment = 0; node = 2; item = Op Sleep }
+      ∷ record { moment = 0; node = 0; item = Op (Transmit (record { id = 0x0; ext = false; kind = Data; bytes = [] })) }
+      ∷ record { moment = 100000; node = 1; item = Op Wakeup }
+      ∷ record { moment = 110000; node = 0; item = Op (Transmit (record { id = 0x0; ext = false; kind = Data; bytes = [] })) }
+      ∷ [];
+}
+
+pub sleep_and_wake : scenario_log 1000000 play ≡ line (codes "0 0 sleep 2")
+    ++ line (codes "0 0 req 0 000#")
+    ++ line (codes "0 0 start 0 000#")
+    ++ line (codes "100000 0 done 0 000# to 1")
+    ++ line (codes "100000 0 wake 1")
+    ++ line (codes "102000 0 told 0 wake")
+    ++ line (codes "102000 0 told 2 wake")
+    ++ line (codes "110000 0 req 0 000#")
+    ++ line (codes "110000 0 start 0 000#")
+    ++ line (codes "210000 0 done 0 000# to 1,2")
+    ++ line (codes "end 0 8")
+unfolding stuff stuff_open stuffed time_of duration beats winner course start finish recover submit submission_of take_inbox next_due next_event behind head line_text digits
+sleep_and_wake = refl
