@@ -12,7 +12,7 @@ mod status;
 mod tests;
 mod top;
 
-use bench_outside::{FileShelf, OutSink};
+use bench_outside::{FileShelf, OutSink, SystemFiles};
 use status::Status;
 use std::alloc::{AllocError, Global};
 use std::env;
@@ -30,7 +30,7 @@ fn main(rt: HostRuntime) -> ExitCode {
     };
     let mut out = OutSink::new(rt.stdout());
     let mut report = OutSink::new(rt.stderr());
-    let mut shelf = FileShelf::new(alloc, rt);
+    let mut shelf = FileShelf::new(alloc, SystemFiles::new(rt));
     let status = top::bench(alloc, &words, &mut shelf, &mut out, &mut report);
     ExitCode::from(status.code())
 }

@@ -6,13 +6,15 @@ use Rattle.bench_outside.specs.Shelf.{Faults}
 use Rattle.bench_outside.specs.Calls.{no_faults}
 use Rattle.bench_outside.specs.Sink.{IsPrefix}
 
--- the reads and the writes that failed
-pub record FileShelf : Type 0 where
+-- the files below, and the reads and the writes that failed
+pub record FileShelf (F : Type 0) : Type 0 where
+  pub files : F
   pub reads : Faults
   pub writes : Faults
 
-abbrev pub no_file_faults : FileShelf
-no_file_faults = record { reads = no_faults; writes = no_faults }
+-- a shelf over these files, on which nothing failed
+abbrev pub fresh_shelf : {F : Type 0} → F → FileShelf F
+fresh_shelf files = record { files = files; reads = no_faults; writes = no_faults }
 
 -- the reader below, and how many reads failed
 pub record InStream (R : Type 0) : Type 0 where
@@ -32,10 +34,11 @@ IsFirstOf bytes most left = IfSome left (λ all. bytes ≡ take most all)
 abbrev pub AppendsPart : Option (List ℕ) → Option (List ℕ) → List ℕ → Type 0
 AppendsPart old new bytes = (part : List ℕ) × IsPrefix part bytes × Appends old new part
 
--- these are the first bytes of a file that is there, at most so many, as far as files tell
-abbrev pub ReadFrom : {F : Type 0} → (F → Option (List ℕ)) → List ℕ → ℕ → Type 0
-ReadFrom {F = F} left bytes most = (file : F) × IsFirstOf bytes most (left file)
+-- These are the first bytes of a file that was opened so, at most so many.
+-- As far as files tell: what is left to be read in a file that was just opened is all that it holds.
+abbrev pub ReadFrom : {F : Type 0} → (F → Type 0) → (F → Option (List ℕ)) → List ℕ → ℕ → Type 0
+ReadFrom {F = F} IsOpened left bytes most = (file : F) × IsOpened file × IsFirstOf bytes most (left file)
 
--- a file that is there has taken all of these bytes, as far as files tell
-abbrev pub WrittenTo : {F : Type 0} → (F → Option (List ℕ)) → List ℕ → Type 0
-WrittenTo {F = F} contents bytes = (old new : F) × Appends (contents old) (contents new) bytes
+-- A file that was made so has taken these bytes and no others, as far as files tell.
+abbrev pub WrittenTo : {F : Type 0} → (F → Type 0) → (F → Option (List ℕ)) → List ℕ → Type 0
+WrittenTo {F = F} IsMade contents bytes = (old new : F) × IsMade old × Appends (contents old) (contents new) bytes

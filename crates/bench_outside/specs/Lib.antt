@@ -1,6 +1,8 @@
 pub mod Causes
 pub mod Shelf
 pub mod Sink
+pub mod Pieces
+pub mod PieceSteps
 pub mod Calls
 pub mod MemShelf
 pub mod MemSink

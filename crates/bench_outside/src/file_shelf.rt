@@ -1,47 +1,45 @@
 //! A shelf over the files of the system.
-ghost use Rattle.std.specs.Prelude.{◌≡◌, ◌≤◌, None, IfOk, OnOk, length};
+ghost use Rattle.std.specs.Prelude.{◌≡◌, ◌≤◌, None, IfOk, OnOk, IsErrOf, length};
 ghost use Rattle.bench_outside.specs.Shelf.{Blames};
-ghost use Rattle.bench_outside.specs.Files.{no_file_faults, ReadFrom, WrittenTo};
+ghost use Rattle.bench_outside.specs.Files.{fresh_shelf, ReadFrom, WrittenTo};
 
 use crate::calls::FaultCount;
 use crate::in_stream::InStream;
-use crate::{Failed, OutSink, Shelf, ShelfError, Sink};
+use crate::{FileSystem, OutSink, Shelf, ShelfError, Sink};
 use std::alloc::Global;
-use std::fs::{self};
 use std::marker::Model;
-use std::rt::Files;
 
-/// The files of the system, by their paths from the current folder. It tells nothing of what they
+/// Files of the system, or any others that are opened by their names. It tells nothing of what they
 /// hold, and counts each read and each write that failed, up to the greatest `u64`.
 #[derive(Drop)]
-pub struct FileShelf<R: Files + Drop> {
-    rt: R,
+pub struct FileShelf<F: FileSystem + Drop> {
+    files: F,
     reads: FaultCount,
     writes: FaultCount,
 }
 
-impl<R: Files + Drop> Model for FileShelf<R> {
+impl<F: FileSystem + Drop> Model for FileShelf<F> {
     ghost use Rattle.bench_outside.specs.Files as model;
 
-    ghost Value = { model.FileShelf };
+    ghost Value = { model.FileShelf F };
 
-    ghost view = { λ s. record { reads = s.reads; writes = s.writes } };
+    ghost view = { λ s. record { files = s.files; reads = s.reads; writes = s.writes } };
 }
 
-impl<R: Files + Drop> FileShelf<R> {
-    /// The files that this runtime reaches, without faults. Takes no memory.
-    pub fn new(alloc: Global, rt: R) -> Self
-        ensures { result ≡ no_file_faults }
+impl<F: FileSystem + Drop> FileShelf<F> {
+    /// A shelf over these files, without faults. Takes no memory.
+    pub fn new(alloc: Global, files: F) -> Self
+        ensures { result ≡ fresh_shelf files }
     {
         FileShelf {
-            rt,
+            files,
             reads: FaultCount::new(alloc),
             writes: FaultCount::new(alloc),
         }
     }
 }
 
-impl<R: Files + Drop> Shelf for FileShelf<R> {
+impl<F: FileSystem + Drop> Shelf for FileShelf<F> {
     ghost holds = { λ s. None };
 
     ghost read_faults = { λ s. s.reads };
@@ -49,8 +47,9 @@ impl<R: Files + Drop> Shelf for FileShelf<R> {
     ghost write_faults = { λ s. s.writes };
 
     fn read(&mut self, alloc: Global, name: &str, cap: u64) -> Result<Vec<u8>, ShelfError>
-        // What is answered was read from a file of the runtime.
-        ensures from_file { IfOk result (λ v. ReadFrom R.File.remaining v.items cap) }
+        // What is answered was read from the file of this name, from its start.
+        ensures from_file { IfOk result (λ v.
+            ReadFrom (F.is_opened name.now) F.File.remaining v.items cap) }
 
         // As for every shelf, which here tells nothing of content.
         ensures short { IfOk result (λ v. length v.items ≤ cap) }
@@ -58,7 +57,7 @@ impl<R: Files + Drop> Shelf for FileShelf<R> {
         ensures others { self.new.writes ≡ self.old.writes }
     {
         let blamed = name.as_bytes().to_vec(alloc)?;
-        let result = match fs::open(&self.rt, name) {
+        let result = match self.files.open(name) {
             Ok(file) => InStream::new(file).read_first(alloc, cap),
             Err(_) => Err(ShelfError::Failed),
         };
@@ -69,17 +68,21 @@ impl<R: Files + Drop> Shelf for FileShelf<R> {
     }
 
     fn write(&mut self, alloc: Global, name: &str, bytes: &[u8]) -> Result<(), ShelfError>
-        // What is stored was written to a file of the runtime.
-        ensures to_file { OnOk result (WrittenTo R.File.contents bytes.now) }
+        // What is stored was written to an empty file of this name, and nothing else was.
+        ensures to_file { OnOk result (WrittenTo (F.is_made name.now) F.File.contents bytes.now) }
+
+        // For want of memory no file was touched.
+        ensures spared { IsErrOf result ShelfError.Memory → self.new.files ≡ self.old.files }
 
         // As for every shelf, which here tells nothing of content.
         ensures cause { Blames self.old.writes self.new.writes name.now result }
         ensures others { self.new.reads ≡ self.old.reads }
     {
+        // The name is copied before the file is made, which empties it.
         let blamed = name.as_bytes().to_vec(alloc)?;
-        let result = match fs::create(&self.rt, name) {
+        let result = match self.files.make(name) {
             Ok(file) => OutSink::new(file).write(bytes),
-            Err(_) => Err(Failed),
+            Err(failed) => Err(failed),
         };
         if result.is_err() {
             self.writes.blame(blamed);

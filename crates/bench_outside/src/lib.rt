@@ -3,6 +3,7 @@
 
 mod calls;
 mod file_shelf;
+mod file_system;
 mod in_stream;
 mod mem_shelf;
 mod mem_sink;
@@ -12,6 +13,7 @@ mod shelf;
 mod sink;
 
 pub use file_shelf::FileShelf;
+pub use file_system::{FileSystem, SystemFiles};
 pub use mem_shelf::{MemShelf, a_put_file_is_found, a_put_file_spares_others};
 pub use mem_sink::MemSink;
 pub use out_sink::OutSink;

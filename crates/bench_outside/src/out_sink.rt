@@ -36,6 +36,7 @@ impl<W: Write + Drop> OutSink<W> {
 
     /// Writes some bytes of a piece that isn't empty. Where the writer takes none, that is a fault.
     fn write_piece(&mut self, piece: &[u8]) -> Result<usize, Failed>
+        requires { 0 < length piece.now }
         ensures bound { WritesAtMost result piece.now }
         ensures some { IfOk result (λ n. 0 < n) }
         ensures bytes { WriteAppends (W.contents self.old.writer) (W.contents self.new.writer)

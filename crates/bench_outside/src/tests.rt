@@ -1,5 +1,5 @@
 //! What no clause says: that calls succeed with ample memory, and what the system's files do.
-use crate::{FileShelf, MemShelf, MemSink, OutSink, Shelf, ShelfError, Sink};
+use crate::{FileShelf, MemShelf, MemSink, OutSink, Shelf, ShelfError, Sink, SystemFiles};
 use std::alloc::Global;
 use std::fs::{self};
 use std::process::Abort;
@@ -106,7 +106,7 @@ fn a_piece_over_the_room_is_a_fault(rt: HostRuntime) -> Result<(), Fail> {
 fn the_files_of_the_system_and_a_full_writer(rt: HostRuntime) -> Result<(), Fail> {
     let alloc = rt.alloc();
     let name = "bench_outside_test_file";
-    let mut shelf = FileShelf::new(alloc, &rt);
+    let mut shelf = FileShelf::new(alloc, SystemFiles::new(&rt));
     shelf.write(alloc, name, b"what stands in it")?;
     expect_read(&rt, alloc, &mut shelf, name, 4, Ok(b"what"));
     expect_read(&rt, alloc, &mut shelf, name, 100, Ok(b"what stands in it"));

@@ -1,60 +1,66 @@
--- One write behind another.
-use Rattle.std.proofs.Common.{◌≡◌, ℕ, ◌+◌, List, [], ◌++◌, Option, Some, None, refl, sym, ap, append_assoc, ◌∙◌, arith}
-use Rattle.std.proofs.lemmas.List.{append-nil}
-use Rattle.std.specs.Prelude.{Result, Ok, Err, OnOk, OnErr, IfOk}
-use Rattle.bench_outside.specs.Causes.{count_after}
-use Rattle.bench_outside.specs.Sink.{Appended, AppendedPart, Counted}
+-- The lines that were written, and those behind them.
+use Rattle.std.proofs.Common.{◌≡◌, ◌<◌, ◌+◌, ℕ, List, [], ◌∷◌, ◌++◌, map, take, drop, length, get_or, refl, sym, ap, append_assoc, ◌∙◌}
+use Rattle.std.proofs.lemmas.List.{map-append, take_more, at_drop_more, take-append-drop}
+use Rattle.std.specs.Prelude.{Result, Ok, Err, OnOk, IfOk}
+use Rattle.bench_outside.specs.declared.sink.Sink.{Ghosts}
+use Rattle.bench_outside.specs.Pieces.{WritesAll, BreaksOff, StopsBefore}
+use Rattle.bench_outside.specs.PieceSteps.{writes-behind, breaks-behind, stops-at, stops-behind}
 
-pub nothing-written : (o : Option (List ℕ)) → Appended o o []
-nothing-written None = refl
-nothing-written (Some w) = ap (λ t. Some t) (sym (append-nil w))
+-- one line more
+pub take-line : {L : Type 0} (lines : List L) (i : ℕ) (line : L) → i < length lines → line ≡ get_or lines i line
+    → take i lines ++ line ∷ [] ≡ take (i + 1) lines
+take-line lines i line below here = ap (λ x. take i lines ++ x ∷ []) here ∙ sym (take_more lines i line below)
 
-pub appended-twice : (first second third : Option (List ℕ)) (a b : List ℕ) → Appended first second a → Appended second third b → Appended first third (a ++ b)
-appended-twice None second third a b p q = rw (q, p) refl
-appended-twice (Some w) second third a b p q = rw (q, p) (ap (λ t. Some t) (append_assoc w a b))
+-- the lines so far, this one, and those behind it
+pub split-lines : {L : Type 0} (lines : List L) (i : ℕ) (line : L) → i < length lines → line ≡ get_or lines i line
+    → (take i lines ++ line ∷ []) ++ drop (i + 1) lines ≡ lines
+split-lines lines i line below here =
+    append_assoc (take i lines) (line ∷ []) (drop (i + 1) lines)
+    ∙ ap (λ x. take i lines ++ x ∷ drop (i + 1) lines) here
+    ∙ ap (λ t. take i lines ++ t) (sym (at_drop_more (λ t. t) lines i line below))
+    ∙ take-append-drop i lines
 
-pub no-part : (o : Option (List ℕ)) (all : List ℕ) → AppendedPart o o all
-no-part o all = ([], (all, refl), nothing-written o)
+-- texts of what lines stand for
+pub texts-of : {L M : Type 0} (text : M → List ℕ) (line : L → M) (lines : List L)
+    → map (λ l. text (line l)) lines ≡ map text (map line lines)
+texts-of text line [] = refl
+texts-of text line (l ∷ ls) = ap (λ t. text (line l) ∷ t) (texts-of text line ls)
 
--- what was written whole leads to all
-pub part-before : (first second : Option (List ℕ)) (a rest all : List ℕ) → Appended first second a → a ++ rest ≡ all → AppendedPart first second all
-part-before first second a rest all p whole = (a, (rest, sym whole), p)
+module _ {S L : Type 0} (sink : Ghosts S) (text : L → List ℕ) where
+  pieces : (before next all : List L) → before ++ next ≡ all → map text before ++ map text next ≡ map text all
+  pieces before next all whole = sym (map-append text before next) ∙ ap (map text) whole
 
--- a part of what comes next, behind what was written whole
-pub part-behind : (first second third : Option (List ℕ)) (a b rest all : List ℕ) → Appended first second a → AppendedPart second third b
-    → (a ++ b) ++ rest ≡ all → AppendedPart first third all
-part-behind first second third a b rest all p q whole = (
-  a ++ q.0,
-  (q.1.0 ++ rest, sym whole ∙ ap (λ t. (a ++ t) ++ rest) q.1.1 ∙ ap (λ t. t ++ rest) (sym (append_assoc a q.0 q.1.0)) ∙ append_assoc (a ++ q.0) q.1.0 rest),
-  appended-twice first second third a q.0 p q.2,
-)
+  three-pieces : (before next rest all : List L) → (before ++ next) ++ rest ≡ all
+      → map text before ++ (map text next ++ map text rest) ≡ map text all
+  three-pieces before next rest all whole =
+      ap (λ t. map text before ++ t) (pieces next rest (next ++ rest) refl)
+      ∙ pieces before (next ++ rest) all (sym (append_assoc before next rest) ∙ whole)
 
--- the last write, behind what was written whole
-pub last-write : (first second third : Option (List ℕ)) (a b all : List ℕ) → Appended first second a → a ++ b ≡ all → Appended second third b → Appended first third all
-last-write first second third a b all p whole q = rw (← whole) (appended-twice first second third a b p q)
+  pub wrote-behind : (a b c : S) (before next all : List L) → before ++ next ≡ all
+      → WritesAll sink a b (map text before) → WritesAll sink b c (map text next) → WritesAll sink a c (map text all)
+  wrote-behind a b c before next all whole first second =
+      rw (← pieces before next all whole) (writes-behind sink a b c (map text before) (map text next) first second)
 
-pub last-part : (first second third : Option (List ℕ)) (a b all : List ℕ) → Appended first second a → a ++ b ≡ all → AppendedPart second third b → AppendedPart first third all
-last-part first second third a b all p whole q = part-behind first second third a b [] all p q (append-nil (a ++ b) ∙ whole)
+  pub broke-behind : (a b c : S) (before next rest all : List L) → (before ++ next) ++ rest ≡ all
+      → WritesAll sink a b (map text before) → BreaksOff sink b c (map text next) → BreaksOff sink a c (map text all)
+  broke-behind a b c before next rest all whole first second =
+      breaks-behind sink a b c (map text before) (map text next) (map text rest) (map text all) first second
+      (three-pieces before next rest all whole)
 
-count_after-twice : (count a b : ℕ) → count_after (count_after count a) b ≡ count_after count (a + b)
-count_after-twice count a b = omega arith
+  pub stopped-behind : (a b c : S) (before next rest all : List L) → (before ++ next) ++ rest ≡ all
+      → WritesAll sink a b (map text before) → StopsBefore sink b c (map text next) → StopsBefore sink a c (map text all)
+  stopped-behind a b c before next rest all whole first second =
+      stops-behind sink a b c (map text before) (map text next) (map text rest) (map text all) first second
+      (three-pieces before next rest all whole)
 
--- counting some writes and then more is counting all of them
-pub counted-twice : (first second third : Option ℕ) (a b : ℕ) → Counted first second a → Counted second third b → Counted first third (a + b)
-counted-twice None second third a b p q = rw (q, p) refl
-counted-twice (Some n) second third a b p q = rw (q, p) (ap (λ m. Some m) (count_after-twice n a b))
-
--- the last writes, behind those that were counted
-pub last-counted : (first second third : Option ℕ) (a b all : ℕ) → Counted first second a → a + b ≡ all → Counted second third b → Counted first third all
-last-counted first second third a b all p whole q = rw (← whole) (counted-twice first second third a b p q)
+  pub stopped-at : (a b : S) (before rest all : List L) → before ++ rest ≡ all
+      → WritesAll sink a b (map text before) → StopsBefore sink a b (map text all)
+  stopped-at a b before rest all whole first =
+      stops-at sink a b (map text before) (map text rest) (map text all) first (pieces before rest all whole)
 
 pub on_ok : {T E : Type 0} {P Q : Type 0} (r : Result T E) → (P → Q) → OnOk r P → OnOk r Q
 on_ok (Ok x) f h = f h
 on_ok (Err e) f h = tt
-
-pub on_err : {T E : Type 0} {P Q : Type 0} (r : Result T E) → (P → Q) → OnErr r P → OnErr r Q
-on_err (Ok x) f h = tt
-on_err (Err e) f h = f h
 
 pub if_ok : {T E : Type 0} {P Q : T → Type 0} (r : Result T E) → ((x : T) → P x → Q x) → IfOk r P → IfOk r Q
 if_ok (Ok x) f h = f x h

@@ -1,10 +1,10 @@
 //! The run of a play over its whole length.
-ghost use Rattle.std.specs.Prelude.{◌≡◌, ◌≤◌, ◌<◌, ◌+◌, ◌^◌, ◌∷◌, [], length, IfOk, OnOk, OnErr, IsErrOf};
-ghost use Rattle.bus_specs.specs.Line.{log_text};
+ghost use Rattle.std.specs.Prelude.{◌≡◌, ◌≤◌, ◌<◌, ◌+◌, ◌^◌, ◌∷◌, [], map, length, IfOk, OnOk, IsErrOf};
+ghost use Rattle.bus_specs.specs.Line.{line_text};
 ghost use Rattle.bus_specs.specs.Line as log;
-ghost use Rattle.bus_specs.specs.History.{play_lines, play_log, play_status, run_from, status_from};
+ghost use Rattle.bus_specs.specs.History.{play_lines, play_status, run_from, status_from};
 ghost use Rattle.bench_outside.specs.Causes.{Rose};
-ghost use Rattle.bench_outside.specs.Sink.{Appended, AppendedPart, Counted};
+ghost use Rattle.bench_outside.specs.Pieces.{WritesAll, BreaksOff, StopsBefore};
 ghost use Rattle.play_run.specs.Endings.{code_of};
 ghost use Rattle.play_run.specs.Ready.{IsReady};
 ghost use Rattle.play_run.specs.Worlds.{world_of};
@@ -24,10 +24,12 @@ fn write_end<O: Sink>(
     events: u64,
     out: &mut O,
 ) -> Result<Ending, RunError>
-    ensures log { OnOk result (Appended (O.written out.old) (O.written out.new) (log_text (log.End (code_of ending) events ∷ []))) }
-    ensures made { OnOk result (Counted (O.writes out.old) (O.writes out.new) 1) }
+    ensures log { OnOk result
+        (WritesAll O.Sink out.old out.new (line_text (log.End (code_of ending) events) ∷ [])) }
     ensures ending { IfOk result (λ e. e ≡ ending) }
-    ensures part { OnErr result (AppendedPart (O.written out.old) (O.written out.new) (log_text (log.End (code_of ending) events ∷ []))) }
+    ensures part { IsErrOf result RunError.Unwritten
+        → BreaksOff O.Sink out.old out.new (line_text (log.End (code_of ending) events) ∷ []) }
+    ensures stopped { IsErrOf result RunError.Memory → out.new ≡ out.old }
     ensures unwritten { IsErrOf result RunError.Unwritten → Rose (O.faults out.old) (O.faults out.new) }
     ensures memory { IsErrOf result RunError.Memory → O.faults out.new ≡ O.faults out.old }
     ensures kept { OnOk result (O.faults out.new ≡ O.faults out.old) }
@@ -52,10 +54,13 @@ fn run_on<O: Sink>(
     requires ready { IsReady (world_of runner) }
     requires stop { stop ≤ 2 ^ 62 }
     requires budget { (world_of runner).events + budget < 2 ^ 62 }
-    ensures log { OnOk result (Appended (O.written out.old) (O.written out.new) (log_text (run_from stop budget (world_of runner)))) }
-    ensures made { OnOk result (Counted (O.writes out.old) (O.writes out.new) (length (run_from stop budget (world_of runner)))) }
+    ensures log { OnOk result
+        (WritesAll O.Sink out.old out.new (map line_text (run_from stop budget (world_of runner)))) }
     ensures ending { IfOk result (λ e. code_of e ≡ status_from stop budget (world_of runner)) }
-    ensures part { OnErr result (AppendedPart (O.written out.old) (O.written out.new) (log_text (run_from stop budget (world_of runner)))) }
+    ensures part { IsErrOf result RunError.Unwritten
+        → BreaksOff O.Sink out.old out.new (map line_text (run_from stop budget (world_of runner))) }
+    ensures stopped { IsErrOf result RunError.Memory
+        → StopsBefore O.Sink out.old out.new (map line_text (run_from stop budget (world_of runner))) }
     ensures unwritten { IsErrOf result RunError.Unwritten → Rose (O.faults out.old) (O.faults out.new) }
     ensures memory { IsErrOf result RunError.Memory → O.faults out.new ≡ O.faults out.old }
     ensures kept { OnOk result (O.faults out.new ≡ O.faults out.old) }
@@ -74,15 +79,19 @@ fn run_on<O: Sink>(
 }
 
 /// Runs a play with at most this many events, and writes its log line by line: each line is one
-/// write. After an error what was written is a first part of the log. `Unwritten` comes only where
-/// a write failed, and `Memory` only where none did.
+/// write. `Unwritten` comes only where a write failed: the lines before that one stand there, of its
+/// own line a first part, and nothing behind it. `Memory` comes only where no write failed, and then
+/// whole lines stand there.
 pub fn run<O: Sink>(alloc: Global, budget: u64, play: Play, out: &mut O) -> Result<Ending, RunError>
     requires few { length play.actions < 2 ^ 63 }
     requires budget { budget < 2 ^ 62 }
-    ensures log { OnOk result (Appended (O.written out.old) (O.written out.new) (play_log budget play)) }
-    ensures made { OnOk result (Counted (O.writes out.old) (O.writes out.new) (length (play_lines budget play))) }
+    ensures log { OnOk result
+        (WritesAll O.Sink out.old out.new (map line_text (play_lines budget play))) }
     ensures ending { IfOk result (λ e. code_of e ≡ play_status budget play) }
-    ensures part { OnErr result (AppendedPart (O.written out.old) (O.written out.new) (play_log budget play)) }
+    ensures part { IsErrOf result RunError.Unwritten
+        → BreaksOff O.Sink out.old out.new (map line_text (play_lines budget play)) }
+    ensures stopped { IsErrOf result RunError.Memory
+        → StopsBefore O.Sink out.old out.new (map line_text (play_lines budget play)) }
     ensures unwritten { IsErrOf result RunError.Unwritten → Rose (O.faults out.old) (O.faults out.new) }
     ensures memory { IsErrOf result RunError.Memory → O.faults out.new ≡ O.faults out.old }
     ensures kept { OnOk result (O.faults out.new ≡ O.faults out.old) }

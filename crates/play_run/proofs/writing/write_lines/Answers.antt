@@ -1,9 +1,9 @@
-use Rattle.std.proofs.Common.{map, take, drop, ◌+◌, rules}
-use Rattle.bus_specs.specs.Line.{line_text, log_text}
+use Rattle.std.proofs.Common.{◌≡◌, take, drop, ◌+◌, [], ◌∷◌, rules}
+use Rattle.bus_specs.specs.Line.{line_text}
 use Rattle.bus_medium.specs.Lines.{line_of}
-use Rattle.bench_outside.specs.Sink.{AppendedPart}
-use Rattle.play_run.proofs.Logs.{text-split}
-use Rattle.play_run.proofs.Writes.{part-behind}
+use Rattle.bench_outside.specs.Pieces.{BreaksOff}
+use Rattle.play_run.proofs.Writes.{take-line, split-lines, wrote-behind, broke-behind, stopped-at}
+use Rattle.std.proofs.lemmas.List.{take-append-drop}
 use Rattle.play_run.proofs.writing.write_lines.Goals as goal
 
 pub returns-in_err-write_line-clause-part : goal.returns-in_err-write_line-clause-part
@@ -11,7 +11,27 @@ returns-in_err-write_line-clause-part g c =
     let lines = c.args.lines.now in
     let i = c.loop-line.line-index in
     let line = c.line-item.result in
-    let part : AppendedPart (g.O.Sink.written c.args.out.now) (g.O.Sink.written c.write_line.new.out) (log_text (map line_of lines)) =
-    part-behind _ _ _ (log_text (map line_of (take i lines))) (line_text (line_of line)) (log_text (map line_of (drop (i + 1) lines))) _
-    c.loop-line.invariant.log c.in_err-write_line.ensures.part (text-split line_of lines i line c.loop-line-test.true c.line-item.is) in
-    search (rules, part)
+    λ unwritten.
+    let broke : BreaksOff g.O.Sink c.loop-line.out c.write_line.new.out (line_text (line_of line) ∷ []) = search (rules, unwritten) in
+    broke-behind g.O.Sink (λ l. line_text (line_of l)) _ c.loop-line.out _ (take i lines) (line ∷ []) (drop (i + 1) lines) lines
+    (split-lines lines i line c.loop-line-test.true c.line-item.is) c.loop-line.invariant.log broke
+
+pub returns-in_err-write_line-clause-stopped : goal.returns-in_err-write_line-clause-stopped
+returns-in_err-write_line-clause-stopped g c =
+    let lines = c.args.lines.now in
+    let i = c.loop-line.line-index in
+    λ memory.
+    let same : c.write_line.new.out ≡ c.loop-line.out = search (rules, memory) in
+    rw same (stopped-at g.O.Sink (λ l. line_text (line_of l)) c.args.out.now c.loop-line.out (take i lines) (drop i lines) lines
+    (take-append-drop i lines) c.loop-line.invariant.log)
+
+pub loop-line-preserved : goal.loop-line-preserved
+loop-line-preserved g c =
+    let lines = c.args.lines.now in
+    let i = c.loop-line.line-index in
+    let line = c.line-item.result in
+    record {
+      log = wrote-behind g.O.Sink (λ l. line_text (line_of l)) _ c.loop-line.out _ (take i lines) (line ∷ []) (take (i + 1) lines)
+          (take-line lines i line c.loop-line-test.true c.line-item.is) c.loop-line.invariant.log (search rules);
+      kept = search rules;
+    }
