@@ -17,3 +17,4 @@ pub mod Foremost
 pub mod Timed
 pub mod Later
 pub mod Boxed
+pub mod Steady
