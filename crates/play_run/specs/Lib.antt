@@ -1,4 +1,7 @@
 pub mod Endings
-pub mod Events
+pub mod Moments
+pub mod Prefixes
 pub mod Ready
+pub mod Scripts
+pub mod Statuses
 pub mod Worlds

@@ -1,5 +1,5 @@
 -- The moment of a run that a runner stands at.
-use Rattle.bus_specs.specs.History.{World}
+use Rattle.play_specs.specs.Scenario.{World}
 use Rattle.play_run.specs.declared.runner.Runner.{Runner}
 
 abbrev pub world_of : Runner → World

@@ -1,13 +1,16 @@
-//! The run of a play: event after event on its bus, and the log of all that.
+//! The run of a play, event by event, and the writing of its log line by line.
 #![tactic(auto)]
 
+mod action;
 mod ending;
-mod event;
+mod moment;
 mod playing;
 mod runner;
-#[cfg(test)]
-mod tests;
+mod script;
 mod writing;
 
+pub use action::Action;
 pub use ending::{Ending, RunError};
 pub use playing::run;
+pub use runner::Runner;
+pub use script::Script;

@@ -1,8 +1,15 @@
 //! The run of a play over its whole length.
-ghost use Rattle.std.specs.Prelude.{◌≡◌, ◌≤◌, ◌<◌, ◌+◌, ◌^◌, ◌∷◌, [], map, length, IfOk, OnOk, IsErrOf};
-ghost use Rattle.bus_specs.specs.Line.{line_text};
-ghost use Rattle.bus_specs.specs.Line as log;
-ghost use Rattle.bus_specs.specs.History.{play_lines, play_status, run_from, status_from};
+ghost use Rattle.std.specs.Prelude.{◌≡◌, ◌≤◌, ◌<◌, ◌+◌, ◌^◌, ◌∷◌, [], true, All, fold, map, IfOk, OnOk, IsErrOf};
+ghost use Rattle.std.specs.List.{range_with_len};
+ghost use Rattle.bus_specs.specs.Bus.{member_is, new_bus};
+ghost use Rattle.bus_specs.specs.Inbox.{enter};
+ghost use Rattle.bus_medium.specs.Setups.{setup_of, IsWellFormed};
+ghost use Rattle.log_specs.specs.Line.{line_text};
+ghost use Rattle.log_specs.specs.Line as log;
+ghost use Rattle.run_specs.specs.Run.{log as log_of};
+ghost use Rattle.play_specs.specs.Scenario.{machine, scenario_lines, scenario_status};
+ghost use Rattle.play_run.specs.Scripts.{scenario_of, IsRunnable};
+ghost use Rattle.play_run.specs.Statuses.{status_from};
 ghost use Rattle.bench_outside.specs.Causes.{Rose};
 ghost use Rattle.bench_outside.specs.Pieces.{WritesAll, BreaksOff, StopsBefore};
 ghost use Rattle.play_run.specs.Endings.{code_of};
@@ -10,12 +17,13 @@ ghost use Rattle.play_run.specs.Ready.{IsReady};
 ghost use Rattle.play_run.specs.Worlds.{world_of};
 
 use crate::runner::Runner;
+use crate::script::Script;
 use crate::writing::{write_line, write_lines};
 use crate::{Ending, RunError};
 use bench_outside::Sink;
-use bus_medium::Line;
-use play_file::Play;
-use std::alloc::Global;
+use bus_log::Line;
+use bus_medium::{BusSetup, Medium};
+use std::alloc::{AllocError, Global};
 
 /// Writes the last line of the log.
 fn write_end<O: Sink>(
@@ -55,12 +63,12 @@ fn run_on<O: Sink>(
     requires stop { stop ≤ 2 ^ 62 }
     requires budget { (world_of runner).events + budget < 2 ^ 62 }
     ensures log { OnOk result
-        (WritesAll O.Sink out.old out.new (map line_text (run_from stop budget (world_of runner)))) }
+        (WritesAll O.Sink out.old out.new (map line_text (log_of (machine stop) budget (world_of runner)))) }
     ensures ending { IfOk result (λ e. code_of e ≡ status_from stop budget (world_of runner)) }
     ensures part { IsErrOf result RunError.Unwritten
-        → BreaksOff O.Sink out.old out.new (map line_text (run_from stop budget (world_of runner))) }
+        → BreaksOff O.Sink out.old out.new (map line_text (log_of (machine stop) budget (world_of runner))) }
     ensures stopped { IsErrOf result RunError.Memory
-        → StopsBefore O.Sink out.old out.new (map line_text (run_from stop budget (world_of runner))) }
+        → StopsBefore O.Sink out.old out.new (map line_text (log_of (machine stop) budget (world_of runner))) }
     ensures unwritten { IsErrOf result RunError.Unwritten → Rose (O.faults out.old) (O.faults out.new) }
     ensures memory { IsErrOf result RunError.Memory → O.faults out.new ≡ O.faults out.old }
     ensures kept { OnOk result (O.faults out.new ≡ O.faults out.old) }
@@ -78,26 +86,47 @@ fn run_on<O: Sink>(
     write_end(alloc, Ending::Done, runner.events(), out)
 }
 
-/// Runs a play with at most this many events, and writes its log line by line: each line is one
+/// All nodes are live from now on.
+fn enter_all(medium: &mut Medium, nodes: u32)
+    requires members { All (λ n. member_is (λ m. true) medium.old.members n ≡ true) (range_with_len 0 nodes) }
+    ensures { medium.new ≡ fold enter medium.old (range_with_len 0 nodes) }
+{
+    for node in 0..nodes {
+        medium.enter(node);
+    }
+}
+
+/// The bus of a script, all of whose nodes are live.
+fn live_bus(alloc: Global, setup: BusSetup, nodes: u32) -> Result<Medium, AllocError>
+    requires setup { IsWellFormed setup }
+    requires nodes { setup.members ≡ range_with_len 0 nodes }
+    ensures { IfOk result (λ m. m ≡ fold enter (new_bus (setup_of setup) setup.members) setup.members) }
+{
+    let mut medium = Medium::new(alloc, setup)?;
+    enter_all(&mut medium, nodes);
+    Ok(medium)
+}
+
+/// Runs a script with at most this many events, and writes its log line by line: each line is one
 /// write. `Unwritten` comes only where a write failed: the lines before that one stand there, of its
 /// own line a first part, and nothing behind it. `Memory` comes only where no write failed, and then
 /// whole lines stand there.
-pub fn run<O: Sink>(alloc: Global, budget: u64, play: Play, out: &mut O) -> Result<Ending, RunError>
-    requires few { length play.actions < 2 ^ 63 }
+pub fn run<O: Sink>(alloc: Global, budget: u64, script: Script, out: &mut O) -> Result<Ending, RunError>
+    requires runnable { IsRunnable script }
     requires budget { budget < 2 ^ 62 }
     ensures log { OnOk result
-        (WritesAll O.Sink out.old out.new (map line_text (play_lines budget play))) }
-    ensures ending { IfOk result (λ e. code_of e ≡ play_status budget play) }
+        (WritesAll O.Sink out.old out.new (map line_text (scenario_lines budget (scenario_of script)))) }
+    ensures ending { IfOk result (λ e. code_of e ≡ scenario_status budget (scenario_of script)) }
     ensures part { IsErrOf result RunError.Unwritten
-        → BreaksOff O.Sink out.old out.new (map line_text (play_lines budget play)) }
+        → BreaksOff O.Sink out.old out.new (map line_text (scenario_lines budget (scenario_of script))) }
     ensures stopped { IsErrOf result RunError.Memory
-        → StopsBefore O.Sink out.old out.new (map line_text (play_lines budget play)) }
+        → StopsBefore O.Sink out.old out.new (map line_text (scenario_lines budget (scenario_of script))) }
     ensures unwritten { IsErrOf result RunError.Unwritten → Rose (O.faults out.old) (O.faults out.new) }
     ensures memory { IsErrOf result RunError.Memory → O.faults out.new ≡ O.faults out.old }
     ensures kept { OnOk result (O.faults out.new ≡ O.faults out.old) }
     ensures later { O.faults out.old ≤ O.faults out.new }
 {
-    let stop = play.stop();
-    let runner = Runner::new(alloc, play)?;
-    run_on(alloc, stop, budget, runner, out)
+    let stop = script.stop;
+    let medium = live_bus(alloc, script.setup, script.nodes)?;
+    run_on(alloc, stop, budget, Runner::new(medium, script.actions), out)
 }

@@ -1,15 +1,16 @@
-//! A play that runs: its bus, the actions that are still ahead, and the last moment.
-ghost use Rattle.std.specs.Prelude.{◌≡◌, ◌≤◌, ◌<◌, ◌^◌, ◌++◌, ℕ, Some, IfOk, OnOk, IfSome, IfNone, option_map, option_to_list, length, []};
-ghost use Rattle.bus_specs.specs.History as model;
-ghost use Rattle.play_specs.specs.PlayText.{nodes_below};
-ghost use Rattle.play_run.specs.Events.{event_of};
-ghost use Rattle.play_run.specs.Ready.{Takes, IsReady};
+//! A play that runs.
+ghost use Rattle.std.specs.Prelude.{◌≡◌, ◌≤◌, ◌<◌, ◌^◌, ℕ, Some, IfOk, OnOk, option_map};
+ghost use Rattle.bus_specs.specs.Due.{at, Notices, precedes as precedes_of};
+ghost use Rattle.run_specs.specs.Order.{better_of};
+ghost use Rattle.play_specs.specs.Scenario as model;
+ghost use Rattle.bus_medium.specs.Dues.{due_of};
+ghost use Rattle.play_run.specs.Ready.{IsReady};
 ghost use Rattle.play_run.specs.Worlds.{world_of};
 
-use crate::event::{Event, What};
-use bus_medium::{BusSetup, LineList, Medium};
-use can_frame::Numbers;
-use play_file::{Action, Play};
+use crate::Action;
+use crate::moment::moment_lines;
+use bus_log::LineList;
+use bus_medium::{Due, Medium, What};
 use std::alloc::{AllocError, Global};
 use std::collections::VecDeque;
 
@@ -17,7 +18,7 @@ use std::collections::VecDeque;
 #[derive(Drop)]
 pub struct Runner {
     medium: Medium,
-    /// What the play still asks, in its order.
+    /// What is still asked, by moment.
     ahead: VecDeque<Action>,
     /// The moment of the last event, in ticks.
     moment: u64,
@@ -25,84 +26,45 @@ pub struct Runner {
     events: u64,
 }
 
-/// The numbers from 0 on, so many.
-fn numbers_below(alloc: Global, count: u32) -> Result<Vec<u32>, AllocError>
-    ensures { IfOk result (λ v. v.items ≡ nodes_below count) }
+/// Whether what is asked at this moment comes before what the bus does.
+fn is_before(due: Due, moment: u64) -> bool
+    ensures { result ≡ precedes_of (at Notices moment) (due_of due) }
 {
-    let mut numbers = Vec::new(alloc);
-    for number in 0..count {
-        numbers.push(number)?;
-    }
-    Ok(numbers)
+    moment < due.moment || (moment == due.moment && matches!(due.what, What::Start))
 }
 
-/// The bus that a play asks for, on which nothing has happened.
-fn medium_of(alloc: Global, play: &Play) -> Result<Medium, AllocError>
-    requires { length play.now.actions < 2 ^ 63 }
-    ensures bus { IfOk result (λ m. m ≡ (model.opening play.now).bus) }
-    ensures takes { IfOk result (λ m. Takes play.now.actions m) }
+/// What comes first: what the bus does, if it does anything, or what is asked at this moment.
+fn first_of(due: Option<Due>, moment: u64) -> Due
+    ensures { Some (due_of result) ≡ better_of precedes_of (option_map due_of due) (at Notices moment) }
 {
-    let members = numbers_below(alloc, play.nodes())?;
-    Medium::new(
-        alloc,
-        BusSetup {
-            number: 0,
-            nominal: play.nominal(),
-            fast: play.fast(),
-            members: Numbers::of(members),
-        },
-    )
+    let asked = Due {
+        moment,
+        what: What::Notices,
+    };
+    match due {
+        Some(due) => { if is_before(due, moment) { asked } else { due } }
+        None => asked,
+    }
 }
 
-/// Takes the action in front, if it is of this moment.
-fn take_at(ahead: &mut VecDeque<Action>, now: u64) -> Option<Action>
-    ensures items { ahead.old.items ≡ option_to_list result ++ ahead.new.items }
-    ensures moment { IfSome result (λ a. a.moment ≡ now) }
-    ensures none { IfNone result (model.at_moment now ahead.old.items ≡ []) }
-    ensures all { IfNone result (model.behind_moment now ahead.old.items ≡ ahead.old.items) }
+/// It, unless it comes after the stop.
+fn up_to(due: Option<Due>, stop: u64) -> Option<Due>
+    ensures { option_map due_of result ≡ model.up_to stop (option_map due_of due) }
 {
-    let front = ahead.front()?;
-    if front.moment() != now {
-        return None;
-    }
-    ahead.pop_front()
-}
-
-/// Carries out the actions of this moment, in their order.
-fn submit_at(
-    alloc: Global,
-    medium: &mut Medium,
-    ahead: &mut VecDeque<Action>,
-    now: u64,
-) -> Result<LineList, AllocError>
-    requires { Takes ahead.old.items medium.old }
-    ensures ahead { OnOk result (ahead.new.items ≡ model.behind_moment now ahead.old.items) }
-    ensures bus { OnOk result (medium.new ≡ (model.submissions (medium.old, []) (model.at_moment now ahead.old.items)).0) }
-    ensures lines { IfOk result (λ lines. lines ≡ (model.submissions (medium.old, []) (model.at_moment now ahead.old.items)).1) }
-{
-    let mut lines = Vec::new(alloc);
-    while let Some(action) = take_at(ahead, now) {
-        let node = action.node();
-        let line = medium.submit(alloc, now, node, action.into_frame())?;
-        lines.push(line)?;
-    }
-    Ok(LineList::of(lines))
+    due.filter(|due| due.moment <= stop)
 }
 
 impl Runner {
-    /// A play before its first event.
-    pub fn new(alloc: Global, play: Play) -> Result<Runner, AllocError>
-        requires { length play.actions < 2 ^ 63 }
-        ensures world { IfOk result (λ r. world_of r ≡ model.opening play) }
-        ensures ready { IfOk result (λ r. IsReady (world_of r)) }
+    /// A run before its first event, on a bus all of whose nodes are live. The actions stand by moment.
+    pub fn new(medium: Medium, actions: Vec<Action>) -> Runner
+        ensures { world_of result ≡ record { events = 0; now = 0; ahead = actions.items; bus = medium } }
     {
-        let medium = medium_of(alloc, &play)?;
-        Ok(Runner {
+        Runner {
             medium,
-            ahead: VecDeque::from(play.into_actions()),
+            ahead: VecDeque::from(actions),
             moment: 0,
             events: 0,
-        })
+        }
     }
 
     /// The events so far.
@@ -113,36 +75,35 @@ impl Runner {
     }
 
     /// What happens next, up to the stop.
-    #[tactic(auto, unfolding(bus_specs::specs::History::next_event))]
-    pub fn next_event(&self, stop: u64) -> Option<Event>
-        ensures { option_map event_of result ≡ model.next_event stop (world_of self.now) }
+    #[tactic(auto, unfolding(play_specs::specs::Scenario::next_event))]
+    pub fn next_event(&self, stop: u64) -> Option<Due>
+        ensures { option_map due_of result ≡ model.next_event stop (world_of self.now) }
     {
-        let due = match self.medium.next_due(self.moment) {
-            Some(due) => Some(Event::of(due)),
-            None => None,
-        };
+        let due = self.medium.next_due(self.moment);
         let next = match self.ahead.front() {
-            Some(action) => Some(Event::sooner(due, action.moment())),
+            Some(action) => Some(first_of(due, action.moment())),
             None => due,
         };
-        Event::up_to(next, stop)
+        up_to(next, stop)
     }
 
     /// Carries out the next event, and gives its lines.
-    pub fn step(&mut self, alloc: Global, event: Event) -> Result<LineList, AllocError>
+    pub fn step(&mut self, alloc: Global, due: Due) -> Result<LineList, AllocError>
         requires ready { IsReady (world_of self.old) }
-        requires next { (stop : ℕ) × (model.next_event stop (world_of self.old) ≡ Some (event_of event)) }
-        requires moment { event.moment ≤ 2 ^ 62 }
+        requires next { (stop : ℕ) × (model.next_event stop (world_of self.old) ≡ Some (due_of due)) }
+        requires moment { due.moment ≤ 2 ^ 62 }
         requires few { (world_of self.old).events < 2 ^ 62 }
-        ensures world { OnOk result (world_of self.new ≡ model.after (world_of self.old) (event_of event)) }
-        ensures lines { IfOk result (λ lines. lines ≡ model.lines_of (world_of self.old) (event_of event)) }
+        ensures world { OnOk result (world_of self.new ≡ (model.world_behind (world_of self.old) (due_of due)).0) }
+        ensures lines { IfOk result (λ lines. lines ≡ (model.world_behind (world_of self.old) (due_of due)).1) }
     {
-        let lines = match event.what {
-            What::Finish => self.medium.finish(alloc, event.moment)?,
-            What::Lines => submit_at(alloc, &mut self.medium, &mut self.ahead, event.moment)?,
-            What::Start => self.medium.start(alloc, event.moment)?,
+        let now = due.moment;
+        let lines = match due.what {
+            What::Finish => self.medium.finish(alloc, now)?,
+            What::Return(node) => self.medium.recover(alloc, now, node)?,
+            What::Notices => moment_lines(alloc, &mut self.medium, &mut self.ahead, now)?,
+            What::Start => self.medium.start(alloc, now)?,
         };
-        self.moment = event.moment;
+        self.moment = now;
         self.events += 1;
         Ok(lines)
     }

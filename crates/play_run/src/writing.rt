@@ -1,13 +1,13 @@
 //! Writing the log: each line is one write.
 ghost use Rattle.std.specs.Prelude.{◌≡◌, ◌≤◌, ◌∷◌, [], map, OnOk, IsErrOf};
-ghost use Rattle.bus_specs.specs.Line.{line_text};
-ghost use Rattle.bus_medium.specs.Lines.{line_of};
+ghost use Rattle.log_specs.specs.Line.{line_text};
+ghost use Rattle.bus_log.specs.Lines.{line_of};
 ghost use Rattle.bench_outside.specs.Causes.{Rose};
 ghost use Rattle.bench_outside.specs.Pieces.{WritesAll, BreaksOff, StopsBefore};
 
 use crate::RunError;
 use bench_outside::Sink;
-use bus_medium::{Line, print_line};
+use bus_log::{Line, print_line};
 use std::alloc::Global;
 
 /// Writes one line.
