@@ -3,7 +3,7 @@ use Rattle.std.proofs.Common.{◌≡◌, ℕ, ◌+◌, ◌==◌, Bool, true, fal
 use Rattle.frame_specs.specs.Frame.{Frame}
 use Rattle.bus_specs.specs.Bus.{Bus, Member, Request, Running, with_member, bits, winner, member_is}
 use Rattle.bus_specs.specs.Submit.{Submission, Transmit, Keep, Discard, Wakeup, Sleep, Rate, FdRate, Declare, FormatError, Unfit, Fate, Accepted, Full, Dropped, fate, with_request, submit, member_after_wakeup, wake_notice, format_notice}
-use Rattle.bus_specs.specs.Inbox.{take_inbox, member_after_inbox}
+use Rattle.bus_specs.specs.Inbox.{enter, take_inbox, member_after_inbox}
 use Rattle.bus_specs.specs.Start.{start, start_with, member_after_start, discarded}
 use Rattle.bus_specs.specs.Finish.{finish, finish_with, recover, member_after_return, member_after_finish}
 use Rattle.bus_sound.proofs.Among.{Among}
@@ -104,3 +104,7 @@ pub steady-member : (b after : Bus) (node : ℕ) → Steady b after → member_i
     → member_is (λ m. true) after.members node ≡ true
 steady-member b after node s h = ap (λ ms. member_is (λ m. true) ms node) s.members
     ∙ member_is-map (λ m. true) (λ m. true) s.change b.members node s.node (λ m a e t. refl) h
+
+-- a node that enters
+pub enter-steady : (b : Bus) (node : ℕ) → Steady b (enter b node)
+enter-steady b node = one-steady b node (λ m. record m { live = true }) (λ m. refl) (λ m k. refl)

@@ -1,6 +1,7 @@
-pub mod Lasting
+pub mod Steps
 pub mod Logs
 pub mod Nexts
-pub mod Nodes
-pub mod Submitting
+pub mod Prefixing
 pub mod Writes
+pub mod Lasting
+pub mod Submitting

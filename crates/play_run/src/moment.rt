@@ -14,7 +14,7 @@ use std::collections::VecDeque;
 
 /// Puts lines behind others.
 fn push_lines(lines: &mut Vec<Line>, more: Vec<Line>) -> Result<(), AllocError>
-    ensures { OnOk result (map line_of lines.new.items ≡ map line_of lines.old.items ++ map line_of more.items) }
+    ensures { OnOk result (lines.new.items ≡ lines.old.items ++ more.items) }
 {
     for line in more {
         lines.push(line)?;

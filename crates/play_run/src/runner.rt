@@ -3,7 +3,7 @@ ghost use Rattle.std.specs.Prelude.{◌≡◌, ◌≤◌, ◌<◌, ◌^◌, ℕ,
 ghost use Rattle.bus_specs.specs.Due.{at, Notices, precedes as precedes_of};
 ghost use Rattle.run_specs.specs.Order.{better_of};
 ghost use Rattle.play_specs.specs.Scenario as model;
-ghost use Rattle.bus_medium.specs.Dues.{due_of};
+ghost use Rattle.bus_medium.specs.Dues.{due_of, what_of};
 ghost use Rattle.play_run.specs.Ready.{IsReady};
 ghost use Rattle.play_run.specs.Worlds.{world_of};
 
@@ -87,6 +87,26 @@ impl Runner {
         up_to(next, stop)
     }
 
+    /// What the next event does to the bus and to what is ahead, and its lines.
+    fn event(&mut self, alloc: Global, due: Due) -> Result<LineList, AllocError>
+        requires ready { IsReady (world_of self.old) }
+        requires next { (stop : ℕ) × (model.next_event stop (world_of self.old) ≡ Some (due_of due)) }
+        requires moment { due.moment ≤ 2 ^ 62 }
+        requires few { (world_of self.old).events < 2 ^ 62 }
+        ensures bus { OnOk result ((world_of self.new).bus ≡ (model.event_step (world_of self.old) due.moment (what_of due.what)).0) }
+        ensures ahead { OnOk result ((world_of self.new).ahead ≡ model.left_ahead (world_of self.old) due.moment (what_of due.what)) }
+        ensures lines { IfOk result (λ lines. lines ≡ (model.event_step (world_of self.old) due.moment (what_of due.what)).1) }
+        ensures events { (world_of self.new).events ≡ (world_of self.old).events }
+    {
+        let now = due.moment;
+        match due.what {
+            What::Finish => self.medium.finish(alloc, now),
+            What::Return(node) => self.medium.recover(alloc, now, node),
+            What::Notices => moment_lines(alloc, &mut self.medium, &mut self.ahead, now),
+            What::Start => self.medium.start(alloc, now),
+        }
+    }
+
     /// Carries out the next event, and gives its lines.
     pub fn step(&mut self, alloc: Global, due: Due) -> Result<LineList, AllocError>
         requires ready { IsReady (world_of self.old) }
@@ -96,14 +116,8 @@ impl Runner {
         ensures world { OnOk result (world_of self.new ≡ (model.world_behind (world_of self.old) (due_of due)).0) }
         ensures lines { IfOk result (λ lines. lines ≡ (model.world_behind (world_of self.old) (due_of due)).1) }
     {
-        let now = due.moment;
-        let lines = match due.what {
-            What::Finish => self.medium.finish(alloc, now)?,
-            What::Return(node) => self.medium.recover(alloc, now, node)?,
-            What::Notices => moment_lines(alloc, &mut self.medium, &mut self.ahead, now)?,
-            What::Start => self.medium.start(alloc, now)?,
-        };
-        self.moment = now;
+        let lines = self.event(alloc, due)?;
+        self.moment = due.moment;
         self.events += 1;
         Ok(lines)
     }

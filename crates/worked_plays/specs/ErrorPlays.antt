@@ -56,7 +56,7 @@ unfolding stuff stuff_open stuffed time_of duration beats winner course start fi
 run_115 = refl
 
 pub run_119 : scenario_log 1000000 (record { setup = record { number = 0; rate = 500000; fd_rate = Some 2000000; nominal = 2000; data_bit_time = Some 500; errors = record { first = 1; count = 32; kind = 3; by = Some 1; bit = 5 } ∷ [] }; nodes = 0 ∷ 1 ∷ []; stop = 5600000; actions = record { moment = 0; node = 1; item = Bad (91 ∷ 55 ∷ 13 ∷ 138 ∷ 101 ∷ 102 ∷ 6 ∷ 166 ∷ []) } ∷ record { moment = 0; node = 1; item = Op (Transmit (record { id = 256; ext = false; kind = Data; bytes = 255 ∷ 255 ∷ 0 ∷ 0 ∷ 255 ∷ 85 ∷ [] })) } ∷ record { moment = 0; node = 1; item = Op (Transmit (record { id = 66886381; ext = true; kind = Remote; bytes = [] })) } ∷ record { moment = 0; node = 1; item = Op (Configuration Discard) } ∷ record { moment = 2000; node = 0; item = Op (Transmit (record { id = 2047; ext = false; kind = Data; bytes = 0 ∷ 255 ∷ 0 ∷ [] })) } ∷ record { moment = 2000; node = 0; item = Op (Transmit (record { id = 1; ext = false; kind = Data; bytes = 255 ∷ 0 ∷ 0 ∷ 255 ∷ 255 ∷ [] })) } ∷ record { moment = 2000; node = 1; item = Bad (154 ∷ []) } ∷ record { moment = 207371; node = 0; item = Op (Configuration (Rate 500000)) } ∷ record { moment = 1297105; node = 0; item = Op Wakeup } ∷ record { moment = 2135485; node = 1; item = Op (Transmit (record { id = 2047; ext = false; kind = Data; bytes = 255 ∷ 0 ∷ 255 ∷ 0 ∷ 255 ∷ 0 ∷ [] })) } ∷ record { moment = 2188562; node = 1; item = Op (Configuration Keep) } ∷ record { moment = 2576144; node = 1; item = Op (FdTransmit (record { id = 2047; ext = false; kind = Fd false false; bytes = [] })) } ∷ [] })
-    ≡ line (codes "0 0 bad 1 5b370d8a656606a6") ++ line (codes "0 0 req 1 100#ffff0000ff55") ++ line (codes "0 0 req 1 03fc9aed#R") ++ line (codes "0 0 discard 1") ++ line (codes "0 0 start 1 03fc9aed#R") ++ line (codes "2000 0 told 1 format 5b370d8a656606a6") ++ line (codes "2000 0 req 0 7ff#00ff00") ++ line (codes "2000 0 req 0 001#ff0000ffff") ++ line (codes "2000 0 bad 1 9a") ++ line (codes "4000 0 told 1 format 9a") ++ line (codes "52000 0 fail 1 03fc9aed#R 3 1") ++ line (codes "58000 0 start 0 001#ff0000ffff") ++ line (codes "58000 0 lost 1 03fc9aed#R discarded") ++ line (codes "60000 0 told 1 lost 03fc9aed") ++ line (codes "110000 0 fail 0 001#ff0000ffff 3 1") ++ line (codes "116000 0 start 0 001#ff0000ffff") ++ line (codes "116000 0 lost 1 100#ffff0000ff55 discarded") ++ line (codes "118000 0 told 1 lost 00000100") ++ line (codes "168000 0 fail 0 001#ff0000ffff 3 1") ++ line (codes "174000 0 start 0 001#ff0000ffff") ++ line (codes "207371 0 rate 0 500000") ++ line (codes "226000 0 fail 0 001#ff0000ffff 3 1") ++ line (codes "232000 0 start 0 001#ff0000ffff") ++ line (codes "284000 0 fail 0 001#ff0000ffff 3 1") ++ line (codes "290000 0 start 0 001#ff0000ffff") ++ line (codes "342000 0 fail 0 001#ff0000ffff 3 1") ++ line (codes "348000 0 start 0 001#ff0000ffff") ++ line (codes "400000 0 fail 0 001#ff0000ffff 3 1") ++ line (codes "406000 0 start 0 001#ff0000ffff") ++ line (codes "458000 0 fail 0 001#ff0000ffff 3 1") ++ line (codes "464000 0 start 0 001#ff0000ffff") ++ line (codes "516000 0 fail 0 001#ff0000ffff 3 1") ++ line (codes "522000 0 start 0 001#ff0000ffff") ++ line (codes "574000 0 fail 0 001#ff0000ffff 3 1") ++ line (codes "580000 0 start 0 001#ff0000ffff") ++ line (codes "632000 0 fail 0 001#ff0000ffff 3 1") ++ line (codes "638000 0 start 0 001#ff0000ffff") ++ line (codes "690000 0 fail 0 001#ff0000ffff 3 1") ++ line (codes "696000 0 start 0 001#ff0000ffff") ++ line (codes "748000 0 fail 0 001#ff0000ffff 3 1") ++ line (codes "754000 0 start 0 001#ff0000ffff") ++ line (codes "806000 0 fail 0 001#ff0000ffff 3 1") ++ line (codes "812000 0 start 0 001#ff0000ffff") ++ line (codes "864000 0 fail 0 001#ff0000ffff 3 1") ++ line (codes "870000 0 start 0 001#ff0000ffff") ++ line (codes "922000 0 fail 0 001#ff0000ffff 3 1") ++ line (codes "928000 0 start 0 001#ff0000ffff") ++ line (codes "980000 0 fail 0 001#ff0000ffff 3 1") ++ line (codes "980000 0 state 0 passive") ++ line (codes "980000 0 state 1 passive") ++ line (codes "1002000 0 start 0 001#ff0000ffff") ++ line (codes "1212000 0 fail 0 001#ff0000ffff 5 0") ++ line (codes "1212000 0 hurt 1 3") ++ line (codes "1234000 0 start 0 001#ff0000ffff") ++ line (codes "1297105 0 wake 0") ++ line (codes "1299105 0 told 1 wake") ++ line (codes "1444000 0 fail 0 001#ff0000ffff 5 0") ++ line (codes "1444000 0 hurt 1 3") ++ line (codes "1466000 0 start 0 001#ff0000ffff") ++ line (codes "1676000 0 fail 0 001#ff0000ffff 5 0") ++ line (codes "1676000 0 hurt 1 3") ++ line (codes "1698000 0 start 0 001#ff0000ffff") ++ line (codes "1908000 0 fail 0 001#ff0000ffff 5 0") ++ line (codes "1908000 0 hurt 1 3") ++ line (codes "1930000 0 start 0 001#ff0000ffff") ++ line (codes "2135485 0 req 1 7ff#ff00ff00ff00") ++ line (codes "2140000 0 fail 0 001#ff0000ffff 5 0") ++ line (codes "2140000 0 hurt 1 3") ++ line (codes "2146000 0 start 1 7ff#ff00ff00ff00") ++ line (codes "2188562 0 keep 1") ++ line (codes "2198000 0 fail 1 7ff#ff00ff00ff00 3 1") ++ line (codes "2204000 0 start 0 001#ff0000ffff") ++ line (codes "2414000 0 fail 0 001#ff0000ffff 5 0") ++ line (codes "2414000 0 hurt 1 3") ++ line (codes "2420000 0 start 1 7ff#ff00ff00ff00") ++ line (codes "2472000 0 fail 1 7ff#ff00ff00ff00 3 1") ++ line (codes "2478000 0 start 0 001#ff0000ffff") ++ line (codes "2576144 0 req 1 7ff##0") ++ line (codes "2688000 0 fail 0 001#ff0000ffff 5 0") ++ line (codes "2688000 0 hurt 1 3") ++ line (codes "2694000 0 start 1 7ff#ff00ff00ff00") ++ line (codes "2746000 0 fail 1 7ff#ff00ff00ff00 3 1") ++ line (codes "2752000 0 start 0 001#ff0000ffff") ++ line (codes "2962000 0 fail 0 001#ff0000ffff 5 0") ++ line (codes "2962000 0 hurt 1 3") ++ line (codes "2968000 0 start 1 7ff#ff00ff00ff00") ++ line (codes "3020000 0 fail 1 7ff#ff00ff00ff00 3 1") ++ line (codes "3026000 0 start 0 001#ff0000ffff") ++ line (codes "3236000 0 fail 0 001#ff0000ffff 5 0") ++ line (codes "3236000 0 hurt 1 3") ++ line (codes "3242000 0 start 1 7ff#ff00ff00ff00") ++ line (codes "3294000 0 fail 1 7ff#ff00ff00ff00 3 1") ++ line (codes "3300000 0 start 0 001#ff0000ffff") ++ line (codes "3510000 0 fail 0 001#ff0000ffff 5 0") ++ line (codes "3510000 0 hurt 1 3") ++ line (codes "3516000 0 start 1 7ff#ff00ff00ff00") ++ line (codes "3716000 0 done 1 7ff#ff00ff00ff00 to 0") ++ line (codes "3722000 0 start 0 001#ff0000ffff") ++ line (codes "3908000 0 done 0 001#ff0000ffff to 1") ++ line (codes "3908000 0 state 0 active") ++ line (codes "3908000 0 state 1 active") ++ line (codes "3914000 0 start 0 7ff#00ff00") ++ line (codes "3914000 0 lost 1 7ff##0 keep") ++ line (codes "4064000 0 done 0 7ff#00ff00 to 1") ++ line (codes "4070000 0 start 1 7ff##0") ++ line (codes "4194000 0 done 1 7ff##0 to 0") ++ line (codes "end 0 83")
+    ≡ line (codes "0 0 bad 1 5b370d8a656606a6") ++ line (codes "0 0 req 1 100#ffff0000ff55") ++ line (codes "0 0 req 1 03fc9aed#R") ++ line (codes "0 0 discard 1") ++ line (codes "0 0 start 1 03fc9aed#R") ++ line (codes "2000 0 told 1 format 5b370d8a656606a6") ++ line (codes "2000 0 req 0 7ff#00ff00") ++ line (codes "2000 0 req 0 001#ff0000ffff") ++ line (codes "2000 0 bad 1 9a") ++ line (codes "4000 0 told 1 format 9a") ++ line (codes "52000 0 fail 1 03fc9aed#R 3 1") ++ line (codes "58000 0 start 0 001#ff0000ffff") ++ line (codes "58000 0 lost 1 03fc9aed#R gone") ++ line (codes "60000 0 told 1 lost 03fc9aed") ++ line (codes "110000 0 fail 0 001#ff0000ffff 3 1") ++ line (codes "116000 0 start 0 001#ff0000ffff") ++ line (codes "116000 0 lost 1 100#ffff0000ff55 gone") ++ line (codes "118000 0 told 1 lost 00000100") ++ line (codes "168000 0 fail 0 001#ff0000ffff 3 1") ++ line (codes "174000 0 start 0 001#ff0000ffff") ++ line (codes "207371 0 rate 0 500000") ++ line (codes "226000 0 fail 0 001#ff0000ffff 3 1") ++ line (codes "232000 0 start 0 001#ff0000ffff") ++ line (codes "284000 0 fail 0 001#ff0000ffff 3 1") ++ line (codes "290000 0 start 0 001#ff0000ffff") ++ line (codes "342000 0 fail 0 001#ff0000ffff 3 1") ++ line (codes "348000 0 start 0 001#ff0000ffff") ++ line (codes "400000 0 fail 0 001#ff0000ffff 3 1") ++ line (codes "406000 0 start 0 001#ff0000ffff") ++ line (codes "458000 0 fail 0 001#ff0000ffff 3 1") ++ line (codes "464000 0 start 0 001#ff0000ffff") ++ line (codes "516000 0 fail 0 001#ff0000ffff 3 1") ++ line (codes "522000 0 start 0 001#ff0000ffff") ++ line (codes "574000 0 fail 0 001#ff0000ffff 3 1") ++ line (codes "580000 0 start 0 001#ff0000ffff") ++ line (codes "632000 0 fail 0 001#ff0000ffff 3 1") ++ line (codes "638000 0 start 0 001#ff0000ffff") ++ line (codes "690000 0 fail 0 001#ff0000ffff 3 1") ++ line (codes "696000 0 start 0 001#ff0000ffff") ++ line (codes "748000 0 fail 0 001#ff0000ffff 3 1") ++ line (codes "754000 0 start 0 001#ff0000ffff") ++ line (codes "806000 0 fail 0 001#ff0000ffff 3 1") ++ line (codes "812000 0 start 0 001#ff0000ffff") ++ line (codes "864000 0 fail 0 001#ff0000ffff 3 1") ++ line (codes "870000 0 start 0 001#ff0000ffff") ++ line (codes "922000 0 fail 0 001#ff0000ffff 3 1") ++ line (codes "928000 0 start 0 001#ff0000ffff") ++ line (codes "980000 0 fail 0 001#ff0000ffff 3 1") ++ line (codes "980000 0 state 0 passive") ++ line (codes "980000 0 state 1 passive") ++ line (codes "1002000 0 start 0 001#ff0000ffff") ++ line (codes "1212000 0 fail 0 001#ff0000ffff 5 0") ++ line (codes "1212000 0 hurt 1 3") ++ line (codes "1234000 0 start 0 001#ff0000ffff") ++ line (codes "1297105 0 wake 0") ++ line (codes "1299105 0 told 1 wake") ++ line (codes "1444000 0 fail 0 001#ff0000ffff 5 0") ++ line (codes "1444000 0 hurt 1 3") ++ line (codes "1466000 0 start 0 001#ff0000ffff") ++ line (codes "1676000 0 fail 0 001#ff0000ffff 5 0") ++ line (codes "1676000 0 hurt 1 3") ++ line (codes "1698000 0 start 0 001#ff0000ffff") ++ line (codes "1908000 0 fail 0 001#ff0000ffff 5 0") ++ line (codes "1908000 0 hurt 1 3") ++ line (codes "1930000 0 start 0 001#ff0000ffff") ++ line (codes "2135485 0 req 1 7ff#ff00ff00ff00") ++ line (codes "2140000 0 fail 0 001#ff0000ffff 5 0") ++ line (codes "2140000 0 hurt 1 3") ++ line (codes "2146000 0 start 1 7ff#ff00ff00ff00") ++ line (codes "2188562 0 keep 1") ++ line (codes "2198000 0 fail 1 7ff#ff00ff00ff00 3 1") ++ line (codes "2204000 0 start 0 001#ff0000ffff") ++ line (codes "2414000 0 fail 0 001#ff0000ffff 5 0") ++ line (codes "2414000 0 hurt 1 3") ++ line (codes "2420000 0 start 1 7ff#ff00ff00ff00") ++ line (codes "2472000 0 fail 1 7ff#ff00ff00ff00 3 1") ++ line (codes "2478000 0 start 0 001#ff0000ffff") ++ line (codes "2576144 0 req 1 7ff##0") ++ line (codes "2688000 0 fail 0 001#ff0000ffff 5 0") ++ line (codes "2688000 0 hurt 1 3") ++ line (codes "2694000 0 start 1 7ff#ff00ff00ff00") ++ line (codes "2746000 0 fail 1 7ff#ff00ff00ff00 3 1") ++ line (codes "2752000 0 start 0 001#ff0000ffff") ++ line (codes "2962000 0 fail 0 001#ff0000ffff 5 0") ++ line (codes "2962000 0 hurt 1 3") ++ line (codes "2968000 0 start 1 7ff#ff00ff00ff00") ++ line (codes "3020000 0 fail 1 7ff#ff00ff00ff00 3 1") ++ line (codes "3026000 0 start 0 001#ff0000ffff") ++ line (codes "3236000 0 fail 0 001#ff0000ffff 5 0") ++ line (codes "3236000 0 hurt 1 3") ++ line (codes "3242000 0 start 1 7ff#ff00ff00ff00") ++ line (codes "3294000 0 fail 1 7ff#ff00ff00ff00 3 1") ++ line (codes "3300000 0 start 0 001#ff0000ffff") ++ line (codes "3510000 0 fail 0 001#ff0000ffff 5 0") ++ line (codes "3510000 0 hurt 1 3") ++ line (codes "3516000 0 start 1 7ff#ff00ff00ff00") ++ line (codes "3716000 0 done 1 7ff#ff00ff00ff00 to 0") ++ line (codes "3722000 0 start 0 001#ff0000ffff") ++ line (codes "3908000 0 done 0 001#ff0000ffff to 1") ++ line (codes "3908000 0 state 0 active") ++ line (codes "3908000 0 state 1 active") ++ line (codes "3914000 0 start 0 7ff#00ff00") ++ line (codes "3914000 0 lost 1 7ff##0 keep") ++ line (codes "4064000 0 done 0 7ff#00ff00 to 1") ++ line (codes "4070000 0 start 1 7ff##0") ++ line (codes "4194000 0 done 1 7ff##0 to 0") ++ line (codes "end 0 83")
 unfolding stuff stuff_open stuffed time_of duration beats winner course start finish recover submit submission_of take_inbox next_due next_event behind head line_text digits spell
 run_119 = refl
 

@@ -1,21 +1,22 @@
 use Rattle.std.proofs.Common.{◌≡◌, ◌≤◌, ◌<◌, ◌+◌, ◌^◌, ◌++◌, ◌∷◌, [], map, sym, ap, ◌∙◌, rules, arith, Some, None, append-nil, refl}
-use Rattle.bus_specs.specs.Line.{line_text, End}
-use Rattle.bus_specs.specs.History.{World, run_from, status_from, next_event, after, lines_of}
-use Rattle.bus_specs.specs.HistorySteps.{status-next}
-use Rattle.bus_medium.specs.Lines.{line_of}
+use Rattle.log_specs.specs.Line.{line_text, End}
+use Rattle.play_specs.specs.Scenario.{World, next_event, world_behind}
+use Rattle.play_run.specs.Statuses.{status_from}
+use Rattle.play_run.proofs.Steps.{run_from, status-next}
+use Rattle.bus_log.specs.Lines.{line_of}
 use Rattle.bench_outside.specs.Pieces.{WritesAll, BreaksOff, StopsBefore}
 use Rattle.play_run.specs.Endings.{code_of}
-use Rattle.play_run.specs.Events.{event_of}
+use Rattle.bus_medium.specs.Dues.{due_of}
 use Rattle.play_run.specs.Worlds.{world_of}
-use Rattle.play_run.proofs.Lasting.{after-ready}
+use Rattle.play_run.proofs.Lasting.{behind-ready}
 use Rattle.play_run.proofs.Logs.{next-within, spent-lines, spent-status, done-lines, done-status, next-lines}
 use Rattle.play_run.proofs.Writes.{texts-of, wrote-behind, broke-behind, stopped-behind, stopped-at, on_ok, if_ok}
 use Rattle.play_run.proofs.playing.run_on.Goals as goal
 
 pub step-requires-clause-moment : goal.step-requires-clause-moment
 step-requires-clause-moment g c =
-    let next : next_event c.args.stop (world_of c.loop-event.runner) ≡ Some (event_of c.in-Some.event) = sym c.in-Some.ensures in
-    let within : c.in-Some.event.moment ≤ c.args.stop = next-within c.args.stop (world_of c.loop-event.runner) (event_of c.in-Some.event) next in
+    let next : next_event c.args.stop (world_of c.loop-event.runner) ≡ Some (due_of c.in-Some.event) = sym c.in-Some.ensures in
+    let within : c.in-Some.event.moment ≤ c.args.stop = next-within c.args.stop (world_of c.loop-event.runner) (due_of c.in-Some.event) next in
     omega (arith, within)
 
 pub returns-then-left-eq0-clause-log : goal.returns-then-left-eq0-clause-log
@@ -23,9 +24,9 @@ returns-then-left-eq0-clause-log g c =
     let i = c.loop-event.invariant in
     let w = world_of c.loop-event.runner in
     let none : c.loop-event.left ≡ 0 = search rules in
-    let next : next_event c.args.stop w ≡ Some (event_of c.in-Some.event) = sym c.in-Some.ensures in
+    let next : next_event c.args.stop w ≡ Some (due_of c.in-Some.event) = sym c.in-Some.ensures in
     let whole : i.log.0 ++ End 8 c.events.result ∷ [] ≡ run_from c.args.stop c.args.budget (world_of c.args.runner) =
-    spent-lines c.args.stop c.loop-event.left c.events.result w (event_of c.in-Some.event) i.log.0 _ none c.events.ensures next i.log.2 in
+    spent-lines c.args.stop c.loop-event.left c.events.result w (due_of c.in-Some.event) i.log.0 _ none c.events.ensures next i.log.2 in
     on_ok c.write_end.result (wrote-behind g.O.Sink line_text c.args.out.now c.loop-event.out c.write_end.new.out i.log.0 (End 8 c.events.result ∷ []) _ whole i.log.1) c.write_end.ensures.log
 
 pub returns-then-left-eq0-clause-part : goal.returns-then-left-eq0-clause-part
@@ -33,9 +34,9 @@ returns-then-left-eq0-clause-part g c =
     let i = c.loop-event.invariant in
     let w = world_of c.loop-event.runner in
     let none : c.loop-event.left ≡ 0 = search rules in
-    let next : next_event c.args.stop w ≡ Some (event_of c.in-Some.event) = sym c.in-Some.ensures in
+    let next : next_event c.args.stop w ≡ Some (due_of c.in-Some.event) = sym c.in-Some.ensures in
     let whole : i.log.0 ++ End 8 c.events.result ∷ [] ≡ run_from c.args.stop c.args.budget (world_of c.args.runner) =
-    spent-lines c.args.stop c.loop-event.left c.events.result w (event_of c.in-Some.event) i.log.0 _ none c.events.ensures next i.log.2 in
+    spent-lines c.args.stop c.loop-event.left c.events.result w (due_of c.in-Some.event) i.log.0 _ none c.events.ensures next i.log.2 in
     let all : (i.log.0 ++ End 8 c.events.result ∷ []) ++ [] ≡ run_from c.args.stop c.args.budget (world_of c.args.runner) = append-nil _ ∙ whole in
     λ unwritten. broke-behind g.O.Sink line_text c.args.out.now c.loop-event.out c.write_end.new.out i.log.0 (End 8 c.events.result ∷ []) [] _ all i.log.1 (c.write_end.ensures.part unwritten)
 
@@ -48,8 +49,8 @@ pub returns-then-left-eq0-clause-ending : goal.returns-then-left-eq0-clause-endi
 returns-then-left-eq0-clause-ending g c =
     let w = world_of c.loop-event.runner in
     let none : c.loop-event.left ≡ 0 = search rules in
-    let next : next_event c.args.stop w ≡ Some (event_of c.in-Some.event) = sym c.in-Some.ensures in
-    let status : 8 ≡ status_from c.args.stop c.args.budget (world_of c.args.runner) = spent-status c.args.stop c.loop-event.left w (event_of c.in-Some.event) _ none next c.loop-event.invariant.status in
+    let next : next_event c.args.stop w ≡ Some (due_of c.in-Some.event) = sym c.in-Some.ensures in
+    let status : 8 ≡ status_from c.args.stop c.args.budget (world_of c.args.runner) = spent-status c.args.stop c.loop-event.left w (due_of c.in-Some.event) _ none next c.loop-event.invariant.status in
     if_ok c.write_end.result (λ e is. ap code_of is ∙ status) c.write_end.ensures.ending
 
 pub returns-clause-log : goal.returns-clause-log
@@ -92,48 +93,48 @@ pub returns-in_err-write_lines-clause-part : goal.returns-in_err-write_lines-cla
 returns-in_err-write_lines-clause-part g c =
     let i = c.loop-event.invariant in
     let w = world_of c.loop-event.runner in
-    let d = event_of c.in-Some.event in
+    let d = due_of c.in-Some.event in
     let more : 0 < c.loop-event.left = search rules in
     let next : next_event c.args.stop w ≡ Some d = sym c.in-Some.ensures in
-    let lines : map line_of c.as_slice.result.now ≡ lines_of w d = c.as_slice.ensures ∙ c.in_ok-lines.ensures.lines in
+    let lines : map line_of c.as_slice.result.now ≡ (world_behind w d).1 = c.as_slice.ensures ∙ c.in_ok-lines.ensures.lines in
     let texts = texts-of line_text line_of c.as_slice.result.now ∙ ap (map line_text) lines in
     λ unwritten.
     let broke : BreaksOff g.O.Sink c.loop-event.out c.write_lines.new.out (map (λ l. line_text (line_of l)) c.as_slice.result.now) = search (rules, unwritten) in
-    broke-behind g.O.Sink line_text c.args.out.now c.loop-event.out c.write_lines.new.out i.log.0 (lines_of w d) _ _
+    broke-behind g.O.Sink line_text c.args.out.now c.loop-event.out c.write_lines.new.out i.log.0 ((world_behind w d).1) _ _
     (next-lines c.args.stop c.loop-event.left w d i.log.0 _ more next i.log.2) i.log.1 (rw (← texts) broke)
 
 pub returns-in_err-write_lines-clause-stopped : goal.returns-in_err-write_lines-clause-stopped
 returns-in_err-write_lines-clause-stopped g c =
     let i = c.loop-event.invariant in
     let w = world_of c.loop-event.runner in
-    let d = event_of c.in-Some.event in
+    let d = due_of c.in-Some.event in
     let more : 0 < c.loop-event.left = search rules in
     let next : next_event c.args.stop w ≡ Some d = sym c.in-Some.ensures in
-    let lines : map line_of c.as_slice.result.now ≡ lines_of w d = c.as_slice.ensures ∙ c.in_ok-lines.ensures.lines in
+    let lines : map line_of c.as_slice.result.now ≡ (world_behind w d).1 = c.as_slice.ensures ∙ c.in_ok-lines.ensures.lines in
     let texts = texts-of line_text line_of c.as_slice.result.now ∙ ap (map line_text) lines in
     λ memory.
     let stopped : StopsBefore g.O.Sink c.loop-event.out c.write_lines.new.out (map (λ l. line_text (line_of l)) c.as_slice.result.now) = search (rules, memory) in
-    stopped-behind g.O.Sink line_text c.args.out.now c.loop-event.out c.write_lines.new.out i.log.0 (lines_of w d) _ _
+    stopped-behind g.O.Sink line_text c.args.out.now c.loop-event.out c.write_lines.new.out i.log.0 ((world_behind w d).1) _ _
     (next-lines c.args.stop c.loop-event.left w d i.log.0 _ more next i.log.2) i.log.1 (rw (← texts) stopped)
 
 pub loop-event-preserved : goal.loop-event-preserved
 loop-event-preserved g c =
     let i = c.loop-event.invariant in
     let w = world_of c.loop-event.runner in
-    let d = event_of c.in-Some.event in
+    let d = due_of c.in-Some.event in
     let more : 0 < c.loop-event.left = search rules in
     let next : next_event c.args.stop w ≡ Some d = sym c.in-Some.ensures in
-    let lines : map line_of c.as_slice.result.now ≡ lines_of w d = c.as_slice.ensures ∙ c.in_ok-lines.ensures.lines in
+    let lines : map line_of c.as_slice.result.now ≡ (world_behind w d).1 = c.as_slice.ensures ∙ c.in_ok-lines.ensures.lines in
     let texts = texts-of line_text line_of c.as_slice.result.now ∙ ap (map line_text) lines in
-    let world : world_of c.step.new.self ≡ after w d = c.in_ok-lines.ensures.world in
+    let world : world_of c.step.new.self ≡ (world_behind w d).0 = c.in_ok-lines.ensures.world in
     let events : c.step.new.self.events ≡ w.events + 1 = ap {A = World} (λ v. v.events) world in
-    let wrote : WritesAll g.O.Sink c.loop-event.out c.write_lines.new.out (map line_text (lines_of w d)) = rw (← texts) c.in_ok-write_lines.ensures.log in
+    let wrote : WritesAll g.O.Sink c.loop-event.out c.write_lines.new.out (map line_text ((world_behind w d).1)) = rw (← texts) c.in_ok-write_lines.ensures.log in
     record {
-      ready = rw world (after-ready w d i.ready);
+      ready = rw world (behind-ready c.args.stop w d i.ready next);
       few = let few : w.events + c.loop-event.left < 2 ^ 62 = i.few in omega (arith, events, few, more);
       log = (
-        i.log.0 ++ lines_of w d,
-        wrote-behind g.O.Sink line_text c.args.out.now c.loop-event.out c.write_lines.new.out i.log.0 (lines_of w d) _ refl i.log.1 wrote,
+        i.log.0 ++ (world_behind w d).1,
+        wrote-behind g.O.Sink line_text c.args.out.now c.loop-event.out c.write_lines.new.out i.log.0 ((world_behind w d).1) _ refl i.log.1 wrote,
         rw world (next-lines c.args.stop c.loop-event.left w d i.log.0 _ more next i.log.2),
       );
       status = rw world (status-next c.args.stop c.loop-event.left w d _ more next i.status);

@@ -1,6 +1,6 @@
 use Rattle.std.proofs.Common.{rules}
-use Rattle.bus_specs.specs.Line.{line_text}
-use Rattle.bus_medium.specs.Lines.{line_of}
+use Rattle.log_specs.specs.Line.{line_text}
+use Rattle.bus_log.specs.Lines.{line_of}
 use Rattle.bench_outside.specs.Sink.{AppendedPart}
 use Rattle.bench_outside.specs.PieceSteps.{breaks-one}
 use Rattle.play_run.proofs.writing.write_line.Goals as goal

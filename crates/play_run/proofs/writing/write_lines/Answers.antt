@@ -1,6 +1,6 @@
 use Rattle.std.proofs.Common.{◌≡◌, take, drop, ◌+◌, [], ◌∷◌, rules}
-use Rattle.bus_specs.specs.Line.{line_text}
-use Rattle.bus_medium.specs.Lines.{line_of}
+use Rattle.log_specs.specs.Line.{line_text}
+use Rattle.bus_log.specs.Lines.{line_of}
 use Rattle.bench_outside.specs.Pieces.{BreaksOff}
 use Rattle.play_run.proofs.Writes.{take-line, split-lines, wrote-behind, broke-behind, stopped-at}
 use Rattle.std.proofs.lemmas.List.{take-append-drop}
