@@ -1,3 +1,4 @@
 pub mod Texts
 pub mod CutLemmas
 pub mod DigitLemmas
+pub mod Named

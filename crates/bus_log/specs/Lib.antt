@@ -5,3 +5,4 @@ pub mod Parts
 pub mod Cuts
 pub mod Verbs
 pub mod Reading
+pub mod Groups

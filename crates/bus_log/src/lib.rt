@@ -7,10 +7,13 @@ mod line_list;
 mod numbers;
 mod parts;
 mod printing;
+mod reading;
+mod told;
 mod verb;
 mod words;
 
 pub use line::Line;
 pub use line_list::LineList;
 pub use printing::print_line;
+pub use reading::read_line;
 pub use words::{Cause, Level};

@@ -1,5 +1,6 @@
 //! The words that say what a line of a bus tells.
 ghost use Rattle.std.specs.Prelude.{◌≡◌, option_map, bytes_eq};
+ghost use Rattle.log_specs.specs.Line.{cause_text as text_of_cause};
 ghost use Rattle.bus_log.specs.Verbs.{named, verb_named as verb_of, verb_text as text_of};
 ghost use Rattle.bus_log.specs.Reading.{level_named as level_of, cause_named as cause_of_word};
 ghost use Rattle.bus_log.specs.Lines.{declared_of, cause_of};
@@ -79,8 +80,14 @@ pub(crate) fn verb_named(word: &[u8]) -> Option<Verb>
 fn verb_among(verbs: &[Verb], word: &[u8]) -> Option<Verb>
     ensures { result ≡ named text_of verbs.now word.now }
 {
-    let verb = verbs.iter().find(|verb| is_word(word, verb_text(**verb)));
-    verb.copied()
+    let mut left = verbs;
+    while let [verb, others @ ..] = left {
+        if is_word(word, verb_text(*verb)) {
+            return Some(*verb);
+        }
+        left = others;
+    }
+    None
 }
 
 /// The state that this word is.
@@ -95,8 +102,20 @@ pub(crate) fn level_named(word: &[u8]) -> Option<Level>
 pub(crate) fn cause_named(word: &[u8]) -> Option<Cause>
     ensures { option_map cause_of result ≡ cause_of_word word.now }
 {
-    let cause = CAUSES.iter().find(|cause| is_word(word, cause_text(**cause)));
-    cause.copied()
+    cause_among(&CAUSES, word)
+}
+
+fn cause_among(causes: &[Cause], word: &[u8]) -> Option<Cause>
+    ensures { result ≡ named (λ c. text_of_cause (cause_of c)) causes.now word.now }
+{
+    let mut left = causes;
+    while let [cause, others @ ..] = left {
+        if is_word(word, cause_text(*cause)) {
+            return Some(*cause);
+        }
+        left = others;
+    }
+    None
 }
 
 fn verb_text(verb: Verb) -> &'static [u8]
