@@ -102,13 +102,19 @@ lost_in (f ∷ w ∷ []) =
     else if bytes_eq w (codes "discarded") then option_map log.LostGone (frame_of f) else None
 lost_in (f ∷ w ∷ x ∷ ws) = None
 
+abbrev pub wake_in : List ℕ → Option Told
+wake_in w = if bytes_eq w (codes "wake") then Some log.ToldWake else None
+
+abbrev pub text_in : List ℕ → List ℕ → Option Told
+text_in w text =
+    if bytes_eq w (codes "lost") then option_map log.ToldLost (id_in text)
+    else if bytes_eq w (codes "format") then option_map log.ToldFormat (bytes_in 1 text) else None
+
 abbrev pub notice_in : List (List ℕ) → Option Told
 notice_in [] = None
-notice_in (w ∷ []) = if bytes_eq w (codes "wake") then Some log.ToldWake else None
-notice_in (w ∷ x ∷ []) =
-    if bytes_eq w (codes "lost") then option_map log.ToldLost (id_in x)
-    else if bytes_eq w (codes "format") then option_map log.ToldFormat (bytes_in 1 x) else None
-notice_in (w ∷ x ∷ y ∷ ws) = None
+notice_in (w ∷ []) = wake_in w
+notice_in (w ∷ text ∷ []) = text_in w text
+notice_in (w ∷ text ∷ x ∷ ws) = None
 
 abbrev pub done_in : List (List ℕ) → Option Told
 done_in [] = None

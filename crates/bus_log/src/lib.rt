@@ -17,3 +17,6 @@ pub use line_list::LineList;
 pub use printing::print_line;
 pub use reading::read_line;
 pub use words::{Cause, Level};
+
+#[cfg(test)]
+mod tests;

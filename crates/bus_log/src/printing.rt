@@ -60,14 +60,29 @@ fn push_rest(alloc: Global, text: &mut Vec<u8>, line: &Line) -> Result<(), Alloc
         | Line::Start { frame, .. } => push_frame(alloc, text, frame),
         Line::LostKept { frame, .. } => push_lost(alloc, text, frame, b"keep"),
         Line::LostGone { frame, .. } => push_lost(alloc, text, frame, b"discarded"),
-        Line::Rate { value, .. } | Line::FdRate { value, .. } => push_number(text, u64::from(*value)),
-        Line::Status { level, .. } | Line::State { level, .. } => push_word(text, level_text(*level)),
+        Line::Rate { value, .. } | Line::FdRate { value, .. } => push_number(
+            text,
+            u64::from(*value),
+        ),
+        Line::Status { level, .. } | Line::State { level, .. } => push_word(
+            text,
+            level_text(*level),
+        ),
         Line::FormatError { bytes, .. } | Line::Bad { bytes, .. } => push_bytes(alloc, text, bytes),
         Line::ToldLost { id, .. } => push_told_lost(alloc, text, *id),
         Line::ToldFormat { bytes, .. } => push_told_format(alloc, text, bytes),
         Line::ToldWake { .. } => push_word(text, b"wake"),
-        Line::Done { frame, receivers, .. } => push_done(alloc, text, frame, receivers),
-        Line::Fail { frame, kind, by, .. } => push_fail(alloc, text, frame, *kind, *by),
+        Line::Done {
+            frame,
+            receivers,
+            ..
+        } => push_done(alloc, text, frame, receivers),
+        Line::Fail {
+            frame,
+            kind,
+            by,
+            ..
+        } => push_fail(alloc, text, frame, *kind, *by),
         Line::Hurt { kind, .. } => push_number(text, u64::from(*kind)),
         Line::Down { cause, .. } => push_word(text, cause_text(*cause)),
         Line::End { status, events } => push_end(text, *status, *events),

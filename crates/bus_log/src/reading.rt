@@ -115,7 +115,11 @@ fn down_line(moment: u64, node: u32, rest: &[&[u8]]) -> Option<Line>
         return None;
     };
     match cause_named(text) {
-        Some(cause) => Some(Line::Down { moment, node, cause }),
+        Some(cause) => Some(Line::Down {
+            moment,
+            node,
+            cause,
+        }),
         None => None,
     }
 }

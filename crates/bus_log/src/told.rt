@@ -4,7 +4,7 @@ ghost use Rattle.frame_specs.specs.FrameReading.{frame_of};
 ghost use Rattle.log_specs.specs.Line as log;
 ghost use Rattle.bus_log.specs.Lines.{line_of, declared_of};
 ghost use Rattle.bus_log.specs.Groups.{with_frame, with_nothing, with_value, with_level, with_bytes};
-ghost use Rattle.bus_log.specs.Reading.{one, bare, told_by, bytes_in as bytes_of_text, id_in as id_of_text, counted as counted_of, four as four_of, number_in, word32, level_named as level_of, notice_in, lost_in, done_in, fail_in};
+ghost use Rattle.bus_log.specs.Reading.{one, bare, told_by, bytes_in as bytes_of_text, id_in as id_of_text, counted as counted_of, four as four_of, number_in, word32, level_named as level_of, notice_in, wake_in, text_in, lost_in, done_in, fail_in};
 
 use crate::numbers::{byte_in, numbers_in, word32_in};
 use crate::verb::{Verb, is_word, level_named};
@@ -30,14 +30,19 @@ pub(crate) fn told_line(
     ensures { IfOk result (λ o. option_map line_of o ≡ option_map (log.On place.moment place.bus place.node) (told_by verb (map (λ w. w.now) rest.now))) }
 {
     match verb {
-        Verb::Req | Verb::Full | Verb::Drop | Verb::Start => framed_line(alloc, place, verb, rest),
+        Verb::Req => framed_line(alloc, place, Verb::Req, rest),
+        Verb::Full => framed_line(alloc, place, Verb::Full, rest),
+        Verb::Drop => framed_line(alloc, place, Verb::Drop, rest),
+        Verb::Start => framed_line(alloc, place, Verb::Start, rest),
         Verb::Keep | Verb::Discard | Verb::Wake | Verb::Sleep | Verb::Back => {
             Ok(bare_line(place, verb, rest))
         }
-        Verb::Rate | Verb::FdRate => Ok(value_line(place, verb, rest)),
-        Verb::Status | Verb::State => Ok(level_line(place, verb, rest)),
-        Verb::FormatError => bytes_line(alloc, place, verb, 0, rest),
-        Verb::Bad => bytes_line(alloc, place, verb, 1, rest),
+        Verb::Rate => Ok(value_line(place, Verb::Rate, rest)),
+        Verb::FdRate => Ok(value_line(place, Verb::FdRate, rest)),
+        Verb::Status => Ok(level_line(place, Verb::Status, rest)),
+        Verb::State => Ok(level_line(place, Verb::State, rest)),
+        Verb::FormatError => bytes_line(alloc, place, Verb::FormatError, 0, rest),
+        Verb::Bad => bytes_line(alloc, place, Verb::Bad, 1, rest),
         Verb::Told => notice_line(alloc, place, rest),
         Verb::Lost => lost_line(alloc, place, rest),
         Verb::Done => done_line(alloc, place, rest),
@@ -69,10 +74,30 @@ fn frame_line(place: Place, verb: Verb, frame: Frame) -> Line
 {
     let Place { moment, bus, node } = place;
     match verb {
-        Verb::Full => Line::Full { moment, bus, node, frame },
-        Verb::Drop => Line::Drop { moment, bus, node, frame },
-        Verb::Start => Line::Start { moment, bus, node, frame },
-        _ => Line::Req { moment, bus, node, frame },
+        Verb::Full => Line::Full {
+            moment,
+            bus,
+            node,
+            frame,
+        },
+        Verb::Drop => Line::Drop {
+            moment,
+            bus,
+            node,
+            frame,
+        },
+        Verb::Start => Line::Start {
+            moment,
+            bus,
+            node,
+            frame,
+        },
+        _ => Line::Req {
+            moment,
+            bus,
+            node,
+            frame,
+        },
     }
 }
 
@@ -104,8 +129,18 @@ fn value_line(place: Place, verb: Verb, rest: &[&[u8]]) -> Option<Line>
     };
     let value = word32_in(text)?;
     match verb {
-        Verb::FdRate => Some(Line::FdRate { moment, bus, node, value }),
-        _ => Some(Line::Rate { moment, bus, node, value }),
+        Verb::FdRate => Some(Line::FdRate {
+            moment,
+            bus,
+            node,
+            value,
+        }),
+        _ => Some(Line::Rate {
+            moment,
+            bus,
+            node,
+            value,
+        }),
     }
 }
 
@@ -127,8 +162,18 @@ fn state_line(place: Place, verb: Verb, level: Level) -> Line
 {
     let Place { moment, bus, node } = place;
     match verb {
-        Verb::State => Line::State { moment, bus, node, level },
-        _ => Line::Status { moment, bus, node, level },
+        Verb::State => Line::State {
+            moment,
+            bus,
+            node,
+            level,
+        },
+        _ => Line::Status {
+            moment,
+            bus,
+            node,
+            level,
+        },
     }
 }
 
@@ -150,8 +195,18 @@ fn bytes_line(
         return Ok(None);
     };
     match verb {
-        Verb::Bad => Ok(Some(Line::Bad { moment, bus, node, bytes })),
-        _ => Ok(Some(Line::FormatError { moment, bus, node, bytes })),
+        Verb::Bad => Ok(Some(Line::Bad {
+            moment,
+            bus,
+            node,
+            bytes,
+        })),
+        _ => Ok(Some(Line::FormatError {
+            moment,
+            bus,
+            node,
+            bytes,
+        })),
     }
 }
 
@@ -159,18 +214,56 @@ fn bytes_line(
 fn notice_line(alloc: Global, place: Place, rest: &[&[u8]]) -> Result<Option<Line>, AllocError>
     ensures { IfOk result (λ o. option_map line_of o ≡ option_map (log.On place.moment place.bus place.node) (notice_in (map (λ w. w.now) rest.now))) }
 {
-    let Place { moment, bus, node } = place;
     match rest {
-        [word] => Ok(is_word(word, b"wake").then_some(Line::ToldWake { moment, bus, node })),
-        [word, text] if is_word(word, b"lost") => match id_in(alloc, text)? {
-            Some(id) => Ok(Some(Line::ToldLost { moment, bus, node, id })),
-            None => Ok(None),
-        },
-        [word, text] if is_word(word, b"format") => match bytes_in(alloc, 1, text)? {
-            Some(bytes) => Ok(Some(Line::ToldFormat { moment, bus, node, bytes })),
-            None => Ok(None),
-        },
+        [word] => Ok(wake_line(place, word)),
+        [word, text] => text_line(alloc, place, word, text),
         _ => Ok(None),
+    }
+}
+
+fn wake_line(place: Place, word: &[u8]) -> Option<Line>
+    ensures { option_map line_of result ≡ option_map (log.On place.moment place.bus place.node) (wake_in word.now) }
+{
+    let Place { moment, bus, node } = place;
+    if is_word(word, b"wake") {
+        Some(Line::ToldWake { moment, bus, node })
+    } else {
+        None
+    }
+}
+
+/// The line of a notice with a text.
+fn text_line(
+    alloc: Global,
+    place: Place,
+    word: &[u8],
+    text: &[u8],
+) -> Result<Option<Line>, AllocError>
+    ensures { IfOk result (λ o. option_map line_of o ≡ option_map (log.On place.moment place.bus place.node) (text_in word.now text.now)) }
+{
+    let Place { moment, bus, node } = place;
+    if is_word(word, b"lost") {
+        match id_in(alloc, text)? {
+            Some(id) => Ok(Some(Line::ToldLost {
+                moment,
+                bus,
+                node,
+                id,
+            })),
+            None => Ok(None),
+        }
+    } else if is_word(word, b"format") {
+        match bytes_in(alloc, 1, text)? {
+            Some(bytes) => Ok(Some(Line::ToldFormat {
+                moment,
+                bus,
+                node,
+                bytes,
+            })),
+            None => Ok(None),
+        }
+    } else {
+        Ok(None)
     }
 }
 
@@ -186,9 +279,19 @@ fn lost_line(alloc: Global, place: Place, rest: &[&[u8]]) -> Result<Option<Line>
         return Ok(None);
     };
     if is_word(word, b"keep") {
-        Ok(Some(Line::LostKept { moment, bus, node, frame }))
+        Ok(Some(Line::LostKept {
+            moment,
+            bus,
+            node,
+            frame,
+        }))
     } else if is_word(word, b"discarded") {
-        Ok(Some(Line::LostGone { moment, bus, node, frame }))
+        Ok(Some(Line::LostGone {
+            moment,
+            bus,
+            node,
+            frame,
+        }))
     } else {
         Ok(None)
     }
@@ -209,7 +312,13 @@ fn done_line(alloc: Global, place: Place, rest: &[&[u8]]) -> Result<Option<Line>
         return Ok(None);
     };
     match numbers_in(alloc, numbers)? {
-        Some(receivers) => Ok(Some(Line::Done { moment, bus, node, frame, receivers })),
+        Some(receivers) => Ok(Some(Line::Done {
+            moment,
+            bus,
+            node,
+            frame,
+            receivers,
+        })),
         None => Ok(None),
     }
 }
@@ -229,7 +338,14 @@ fn fail_line(alloc: Global, place: Place, rest: &[&[u8]]) -> Result<Option<Line>
         return Ok(None);
     };
     match word32_in(by) {
-        Some(by) => Ok(Some(Line::Fail { moment, bus, node, frame, kind, by })),
+        Some(by) => Ok(Some(Line::Fail {
+            moment,
+            bus,
+            node,
+            frame,
+            kind,
+            by,
+        })),
         None => Ok(None),
     }
 }
@@ -243,7 +359,12 @@ fn hurt_line(place: Place, rest: &[&[u8]]) -> Option<Line>
         return None;
     };
     let kind = byte_in(1, 4, text)?;
-    Some(Line::Hurt { moment, bus, node, kind })
+    Some(Line::Hurt {
+        moment,
+        bus,
+        node,
+        kind,
+    })
 }
 
 /// Bytes in hexadecimal, so many at least and 64 at most; a dash is none.
@@ -288,7 +409,9 @@ fn number_of(bytes: &[u8]) -> Option<u32>
 {
     match bytes {
         [a, b, c, d] => Some(
-            0x100_0000 * u32::from(*a) + 0x1_0000 * u32::from(*b) + 0x100 * u32::from(*c)
+            0x100_0000 * u32::from(*a)
+                + 0x1_0000 * u32::from(*b)
+                + 0x100 * u32::from(*c)
                 + u32::from(*d),
         ),
         _ => None,

@@ -94,7 +94,9 @@ fn verb_among(verbs: &[Verb], word: &[u8]) -> Option<Verb>
 pub(crate) fn level_named(word: &[u8]) -> Option<Level>
     ensures { option_map declared_of result ≡ level_of word.now }
 {
-    let level = LEVELS.iter().find(|level| is_word(word, level_text(**level)));
+    let level = LEVELS
+        .iter()
+        .find(|level| is_word(word, level_text(**level)));
     level.copied()
 }
 
