@@ -1,8 +1,8 @@
 //! The texts of lines by hand, and texts that are no lines.
 use crate::{Line, print_line, read_line};
+use std::alloc::Global;
 use std::process::Abort;
 use std::test::Fail;
-use std::alloc::Global;
 
 const LINES: [&[u8]; 30] = [
     b"0 0 req 1 123#0a0b\n",
@@ -54,9 +54,15 @@ fn each_kind_of_line_is_read_and_printed(rt: HostRuntime) -> Result<(), Fail> {
 #[test]
 fn parts_stand_in_their_places(rt: HostRuntime) -> Result<(), Fail> {
     let line = assert_read_back(&rt, rt.alloc(), b"7 2 hurt 3 4\n")?;
-    assert_eq!(rt; (line.moment(), line.bus(), line.node()), (Some(7), Some(2), Some(3)));
+    assert_eq!(rt;
+        (line.moment(), line.bus(), line.node()),
+        (Some(7), Some(2), Some(3))
+    );
     let line = assert_read_back(&rt, rt.alloc(), b"7 - over 3\n")?;
-    assert_eq!(rt; (line.moment(), line.bus(), line.node()), (Some(7), None, Some(3)));
+    assert_eq!(rt;
+        (line.moment(), line.bus(), line.node()),
+        (Some(7), None, Some(3))
+    );
     Ok(())
 }
 
