@@ -192,7 +192,10 @@ pub enum Line {
         cause: Cause,
     },
     /// A node has ended by its own wish.
-    Over { moment: u64, node: u32 },
+    Over {
+        moment: u64,
+        node: u32,
+    },
     /// The log ends.
     End {
         /// 0 where nothing is left to happen, 8 where the budget of events is used and one is left.

@@ -2,6 +2,7 @@
 #![tactic(auto)]
 
 mod frame;
+mod hexadecimal;
 mod laws;
 mod lists;
 mod printing;

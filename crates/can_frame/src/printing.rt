@@ -1,6 +1,6 @@
 //! Printing a frame: `123#0a0b`, `1fffffff#R`, `123##1112233`.
 ghost use Rattle.std.specs.Prelude.{◌≡◌, ◌<◌, ◌≤◌, ◌++◌, IfOk, OnOk};
-ghost use Rattle.frame_specs.specs.FrameText.{frame_text, flag, hex, hex_bytes, hex_digit as digit_of};
+ghost use Rattle.frame_specs.specs.FrameText.{frame_text, flag, hex, hex_digit as digit_of};
 
 use crate::{Frame, Kind};
 use std::alloc::{AllocError, Global};
@@ -11,17 +11,16 @@ impl Frame {
     pub fn print(&self, alloc: Global) -> Result<Vec<u8>, AllocError>
         ensures { IfOk result (λ v. v.items ≡ frame_text self.now) }
     {
-        let bytes = self.bytes().as_slice();
-        let mut text = Vec::with_capacity(alloc, 11 + 2 * bytes.len())?;
+        let mut text = Vec::new(alloc);
         push_number(&mut text, self.id(), if self.ext() { 8 } else { 3 })?;
         text.push(b'#')?;
         match self.kind() {
-            Kind::Data => push_bytes(&mut text, bytes)?,
+            Kind::Data => text.extend_from_slice(&self.bytes().print(alloc)?)?,
             Kind::Remote => text.push(b'R')?,
             Kind::Fd { brs, esi } => {
                 text.push(b'#')?;
                 text.push(hex_digit(u8::from(brs) + 2 * u8::from(esi)))?;
-                push_bytes(&mut text, bytes)?;
+                text.extend_from_slice(&self.bytes().print(alloc)?)?;
             }
         }
         Ok(text)
@@ -48,16 +47,6 @@ fn push_number(text: &mut Vec<u8>, number: u32, width: u32) -> Result<(), AllocE
     while left > 0 {
         left -= 1;
         text.push(hex_digit((number >> (4 * left) & 0xf) as u8))?;
-    }
-    Ok(())
-}
-
-fn push_bytes(text: &mut Vec<u8>, bytes: &[u8]) -> Result<(), AllocError>
-    ensures { OnOk result (text.new.items ≡ text.old.items ++ hex_bytes bytes.now) }
-{
-    for byte in bytes {
-        text.push(hex_digit(*byte / 16))?;
-        text.push(hex_digit(*byte % 16))?;
     }
     Ok(())
 }

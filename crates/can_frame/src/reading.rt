@@ -1,7 +1,7 @@
 //! Reading a frame from its text.
 ghost use Rattle.std.specs.Prelude.{◌≡◌, ◌<◌, ◌≤◌, IfOk, IfSome, Some, length, option_map};
 ghost use Rattle.frame_specs.specs.Frame.{Frame as frame};
-ghost use Rattle.frame_specs.specs.FrameReading.{Spells, frame_of, digit_of, number_from, bytes_of, cut as cut_of, format_of, fd_kind_of, with_kind as with_kind_of, content_of};
+ghost use Rattle.frame_specs.specs.FrameReading.{Spells, frame_of, digit_of, number_from, cut as cut_of, format_of, fd_kind_of, with_kind as with_kind_of, content_of};
 ghost use Rattle.can_frame.specs.Kinds.{kind_of};
 
 use crate::{Bytes, Frame, Kind};
@@ -126,28 +126,8 @@ fn fd_kind(byte: u8) -> Option<Kind>
 fn with_kind(alloc: Global, kind: Kind, text: &[u8]) -> Result<Option<(Kind, Bytes)>, AllocError>
     ensures { IfOk result (λ o. option_map (λ c. (kind_of c.0, c.1)) o ≡ with_kind_of (kind_of kind) text.now) }
 {
-    match bytes(alloc, text)? {
-        Some(bytes) => Ok(Some((kind, Bytes::of(bytes)))),
+    match Bytes::read(alloc, text)? {
+        Some(bytes) => Ok(Some((kind, bytes))),
         None => Ok(None),
-    }
-}
-
-/// The bytes that pairs of digits spell.
-fn bytes(alloc: Global, text: &[u8]) -> Result<Option<Vec<u8>>, AllocError>
-    ensures { IfOk result (λ o. option_map (λ v. v.items) o ≡ bytes_of text.now) }
-{
-    let mut bytes = Vec::with_capacity(alloc, text.len() / 2)?;
-    let mut rest = text;
-    while let [high, low, after @ ..] = rest {
-        let (Some(high), Some(low)) = (digit(*high), digit(*low)) else {
-            return Ok(None);
-        };
-        bytes.push(16 * high + low)?;
-        rest = after;
-    }
-    if rest.is_empty() {
-        Ok(Some(bytes))
-    } else {
-        Ok(None)
     }
 }

@@ -160,6 +160,18 @@ fn bytes_give_back_what_they_hold(rt: HostRuntime) -> Result<(), Fail> {
 }
 
 #[test]
+fn bytes_are_printed_and_read_back(rt: HostRuntime) -> Result<(), Fail> {
+    let bytes = Bytes::read(rt.alloc(), b"00ff7a")?.ok_or("the text is of pairs")?;
+    assert_eq!(rt; bytes.as_slice(), [0u8, 255, 0x7a].as_slice());
+    assert_eq!(rt; bytes.print(rt.alloc())?.as_slice(), b"00ff7a".as_slice());
+    let texts: [&[u8]; 5] = [b"0", b"0g", b"0A", b"F0", b"000 "];
+    for text in texts {
+        assert!(rt; Bytes::read(rt.alloc(), text)?.is_none(), "at {text:?}");
+    }
+    Ok(())
+}
+
+#[test]
 fn numbers_give_back_what_they_hold(rt: HostRuntime) -> Result<(), Fail> {
     let numbers = Numbers::of([7u32, u32::MAX].to_vec(rt.alloc())?);
     assert_eq!(rt; numbers.as_slice(), [7, u32::MAX].as_slice());

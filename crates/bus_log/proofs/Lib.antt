@@ -1,0 +1,5 @@
+pub mod Texts
+pub mod CutLemmas
+pub mod DigitLemmas
+pub mod Named
+pub mod FourWords
