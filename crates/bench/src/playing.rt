@@ -1,9 +1,11 @@
 //! The command `play`.
-ghost use Rattle.std.specs.Prelude.{◌≡◌, ◌≢◌, ◌<◌, ◌^◌, ◌⊎◌, ℕ, List, Some, Err, length};
+ghost use Rattle.std.specs.Prelude.{◌≡◌, ◌≢◌, ◌<◌, ◌^◌, ◌⊎◌, ℕ, List, Some, Err, map, length};
+ghost use Rattle.bus_specs.specs.Line.{line_text};
+ghost use Rattle.bus_specs.specs.History.{Play as play_record, play_lines, play_log};
 ghost use Rattle.play_specs.specs.PlayText.{play_of};
 ghost use Rattle.bench_outside.specs.Shelf.{Contents};
 ghost use Rattle.bench_outside.specs.Causes.{Rose};
-ghost use Rattle.bench_outside.specs.Pieces.{WritesAll, BreaksOff, StopsBefore};
+ghost use Rattle.bench_outside.specs.Pieces.{joined, WritesAll, BreaksOff, StopsBefore};
 ghost use Rattle.bench_outside.specs.declared.refusal.FileId.{FileId};
 ghost use Rattle.bench_outside.specs.declared.refusal.Refusal.{Refusal};
 ghost use Rattle.bench.specs.Refusals.{main_refusal};
@@ -30,6 +32,12 @@ const BUDGET: u64 = 1_000_000;
 pub fn limits_are_those_of_the_format()
     ensures bytes { (LIMIT ≡ 2 ^ 24) × (file_limit ≡ LIMIT) }
     ensures events { (BUDGET ≡ 10 ^ 6) × (event_budget ≡ BUDGET) }
+{}
+
+/// The lines of a play, one behind the other, are its log.
+pub fn the_lines_of_a_play_are_its_log()
+    ensures { (events : ℕ) (p : play_record)
+        → joined (map line_text (play_lines events p)) ≡ play_log events p }
 {}
 
 /// Writes the log of the play of a file.
