@@ -4,7 +4,7 @@ use Rattle.std.proofs.Common.{sym, ap, ◌∙◌, append_assoc, arith, length-ap
 use Rattle.std.proofs.lemmas.List.{append-nil}
 use Rattle.std.proofs.lemmas.Grind.{flat_map-append}
 use Rattle.bench_outside.specs.Causes.{count_after}
-use Rattle.bench_outside.specs.Sink.{Appended, AppendedPart, IsPrefix, Counted}
+use Rattle.bench_outside.specs.Sink.{Appended, AppendedPart, Counted}
 use Rattle.bench_outside.specs.declared.sink.Sink.{Ghosts}
 use Rattle.bench_outside.specs.Pieces.{joined, WritesAll, BreaksOff, StopsBefore}
 

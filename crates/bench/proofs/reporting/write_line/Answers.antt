@@ -1,4 +1,4 @@
-use Rattle.std.proofs.Common.{◌≡◌, ◌+◌, [], ◌∷◌, take, drop, refl, subst, take_all}
+use Rattle.std.proofs.Common.{◌≡◌, [], ◌∷◌, take, refl, subst, take_all}
 use Rattle.bench_outside.specs.Pieces.{WritesAll}
 use Rattle.bench_outside.specs.PieceSteps.{breaks_behind}
 use Rattle.bench.proofs.Spaced.{spaced, split-spaced, on_err, at_err}
