@@ -1,5 +1,7 @@
 pub mod Words
 pub mod Statuses
 pub mod Refusals
-pub mod Plays
+pub mod Deed
+pub mod Playing
+pub mod Deeds
 pub mod Report

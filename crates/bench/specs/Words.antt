@@ -1,25 +1,41 @@
--- The words of the command line, and what is said of the file that they name.
+-- The words of the command line, and the command that they are.
 use Rattle.std.specs.Prelude.{◌≡◌, ℕ, List, [], ◌∷◌, Option, Some, None, if◌then◌else◌, codes, bytes_eq, refl}
-use Rattle.bench_outside.specs.Shelf.{Contents}
+use Rattle.bench_outside.specs.declared.refusal.FileId.{FileId}
+use Rattle.bench_outside.specs.declared.refusal.FileId.TheVariants.{Main}
+use Rattle.bench.specs.declared.words.Command.{Command as code_command}
+use Rattle.bench.specs.declared.words.Command.TheVariants.{Play as code_play}
 
--- the name of the file that is to be played, where the words are `play FILE`
-abbrev pub file_of : List (List ℕ) → Option (List ℕ)
-file_of (command ∷ file ∷ []) = if bytes_eq command (codes "play") then Some file else None
-file_of words = None
+-- one for each form of the words
+pub data Command : Type 0 where
+  -- play FILE
+  Play : (file : List ℕ) → Command
 
--- where the shelf tells what it holds and a file is named: P, of the bytes of that file
-abbrev pub OfFile : Option Contents → Option (List ℕ) → (List ℕ → Type 0) → Type 0
-OfFile holds file P =
-    (held : Contents) (name : List ℕ) → holds ≡ Some held → file ≡ Some name → P (held name)
+-- a command that takes one word
+abbrev pub of_one : (List ℕ → Command) → List (List ℕ) → Option Command
+of_one command (word ∷ []) = Some (command word)
+of_one command words = None
 
-file_of-play : file_of (codes "play" ∷ codes "a" ∷ []) ≡ Some (codes "a")
-file_of-play = refl
+-- the command that the words are; none where they are no form of a command
+abbrev pub command_of : List (List ℕ) → Option Command
+command_of [] = None
+command_of (first ∷ words) = if bytes_eq first (codes "play") then of_one Play words else None
 
-file_of-other : file_of (codes "run" ∷ codes "a" ∷ []) ≡ None
-file_of-other = refl
+-- the name that the words give to a file; none where its name stands in another file
+abbrev pub name_in_words : Command → FileId → Option (List ℕ)
+name_in_words (Play file) Main = Some file
 
-file_of-alone : file_of (codes "play" ∷ []) ≡ None
-file_of-alone = refl
+-- the command that the code holds
+abbrev pub meant : code_command → Command
+meant (code_play file) = Play file.now
 
-file_of-more : file_of (codes "play" ∷ codes "a" ∷ codes "b" ∷ []) ≡ None
-file_of-more = refl
+command_of-play : command_of (codes "play" ∷ codes "a" ∷ []) ≡ Some (Play (codes "a"))
+command_of-play = refl
+
+command_of-other : command_of (codes "run" ∷ codes "a" ∷ []) ≡ None
+command_of-other = refl
+
+command_of-alone : command_of (codes "play" ∷ []) ≡ None
+command_of-alone = refl
+
+command_of-more : command_of (codes "play" ∷ codes "a" ∷ codes "b" ∷ []) ≡ None
+command_of-more = refl

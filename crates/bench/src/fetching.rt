@@ -1,7 +1,7 @@
 //! Reading a whole file, up to a greatest length.
 ghost use Rattle.std.specs.Prelude.{◌≡◌, ◌<◌, ◌≤◌, ◌^◌, ◌⊎◌, Some, Err, IfOk, length};
 ghost use Rattle.bench_outside.specs.Causes.{Rose};
-ghost use Rattle.bench.specs.Words.{OfFile};
+ghost use Rattle.bench_outside.specs.Shelf.{Contents};
 
 use bench_outside::{Shelf, ShelfError};
 use std::alloc::Global;
@@ -25,10 +25,10 @@ pub(crate) fn fetch<H: Shelf>(
 ) -> Result<Vec<u8>, FetchError>
     requires { limit < 2 ^ 32 }
     ensures bytes { IfOk result (λ v.
-        OfFile (H.holds shelf.old) (Some name.now) (λ bytes. v.items ≡ bytes)) }
+        (held : Contents) → H.holds shelf.old ≡ Some held → v.items ≡ held name.now) }
     ensures within { IfOk result (λ v. length v.items ≤ limit) }
-    ensures size { result ≡ Err FetchError.Size →
-        OfFile (H.holds shelf.old) (Some name.now) (λ bytes. limit < length bytes) }
+    ensures size { result ≡ Err FetchError.Size → (held : Contents)
+        → H.holds shelf.old ≡ Some held → limit < length (held name.now) }
 
     // Only a read of this file is blamed, and what it holds stays.
     ensures unread { result ≡ Err FetchError.Unread

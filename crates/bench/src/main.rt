@@ -4,6 +4,7 @@
 ghost use Rattle.std.specs.Prelude.{◌≡◌, ◌↔◌, [], IfOk, IsErr};
 ghost use Rattle.std.specs.IoError.{error_kind};
 
+mod carrying;
 mod fetching;
 mod playing;
 mod reporting;
@@ -11,6 +12,7 @@ mod status;
 #[cfg(test)]
 mod tests;
 mod top;
+mod words;
 
 use bench_outside::{FileShelf, OutSink, SystemFiles};
 use status::Status;

@@ -1,48 +1,89 @@
-//! The command `play`, over the bytes of its file.
-ghost use Rattle.std.specs.Prelude.{◌≡◌, ◌≢◌, ◌<◌, ◌^◌, ◌⊎◌, ℕ, Some, Ok, length};
-ghost use Rattle.bus_specs.specs.History.{Play as play_record};
+//! The command `play`.
+ghost use Rattle.std.specs.Prelude.{◌≡◌, ◌≢◌, ◌<◌, ◌^◌, ◌⊎◌, ℕ, List, Some, Err, map, length};
+ghost use Rattle.bus_specs.specs.Line.{line_text};
+ghost use Rattle.bus_specs.specs.History.{Play as play_record, play_lines, play_log};
 ghost use Rattle.play_specs.specs.PlayText.{play_of};
+ghost use Rattle.bench_outside.specs.Shelf.{Contents};
 ghost use Rattle.bench_outside.specs.Causes.{Rose};
+ghost use Rattle.bench_outside.specs.Pieces.{joined, WritesAll, BreaksOff, StopsBefore};
 ghost use Rattle.bench_outside.specs.declared.refusal.FileId.{FileId};
 ghost use Rattle.bench_outside.specs.declared.refusal.Refusal.{Refusal};
+ghost use Rattle.bench.specs.Refusals.{main_refusal};
 ghost use Rattle.bench.specs.Statuses.{WritesNothing};
-ghost use Rattle.bench.specs.Refusals.{main_refusal, refusal_in};
-ghost use Rattle.bench.specs.Plays.{IsPlayed, IsPartlyPlayed, WritesLineByLine};
+ghost use Rattle.bench.specs.Words.{Play};
+ghost use Rattle.bench.specs.Deed.{Deed, CarriedOut, Caused, IsFault};
+ghost use Rattle.bench.specs.Deeds.{Does};
+ghost use Rattle.bench.specs.Playing.{placed, status_of, lines_of, file_limit, event_budget};
 
+use crate::fetching::{FetchError, fetch};
 use crate::status::Status;
-use bench_outside::{FileId, Refusal, Sink, Why};
+use bench_outside::{FileId, Refusal, Shelf, Sink, Why};
 use play_file::{PlayError, read_play};
 use play_run::{Ending, RunError, run};
 use std::alloc::Global;
 
+/// The greatest length of a file, in bytes.
+const LIMIT: u64 = 16_777_216;
+
+/// The events that a play may have.
+const BUDGET: u64 = 1_000_000;
+
+/// The limits are those of the format: a file of 2^24 bytes, and a million events.
+pub fn limits_are_those_of_the_format()
+    ensures bytes { (LIMIT ≡ 2 ^ 24) × (file_limit ≡ LIMIT) }
+    ensures events { (BUDGET ≡ 10 ^ 6) × (event_budget ≡ BUDGET) }
+{}
+
+/// The lines of a play, one behind the other, are its log.
+pub fn the_lines_of_a_play_are_its_log()
+    ensures { (events : ℕ) (p : play_record)
+        → joined (map line_text (play_lines events p)) ≡ play_log events p }
+{}
+
+/// Writes the log of the play of a file.
+pub(crate) fn play<H: Shelf, O: Sink>(
+    alloc: Global,
+    file: &str,
+    shelf: &mut H,
+    out: &mut O,
+) -> Status
+    ensures carried { (held : Contents) → H.holds shelf.old ≡ Some held
+        → (deed : Deed) × Does (Play file.now) held deed
+        × CarriedOut O.Sink deed out.old out.new (H.read_faults shelf.new).last result }
+    ensures spared { (held : Contents) (deed : Deed) (r : Refusal) → H.holds shelf.old ≡ Some held
+        → Does (Play file.now) held deed → deed.status ≡ Status.Refused r → out.new ≡ out.old }
+    ensures named { (id : FileId) → result ≡ Status.Unread id
+        → (H.read_faults shelf.new).last ≡ file.now }
+    ensures caused { Caused H.Shelf O.Sink shelf.old shelf.new out.old out.new result }
+    ensures form { result ≢ Status.Usage }
+{
+    match fetch(alloc, shelf, file, LIMIT) {
+        Ok(bytes) => play_bytes(alloc, BUDGET, &bytes, out),
+        Err(FetchError::Unread) => Status::Unread(FileId::Main),
+        Err(FetchError::Size) => refused(Why::Size, LIMIT),
+        Err(FetchError::Memory) => Status::Memory,
+    }
+}
+
 /// Runs the play that these bytes spell with at most this many events, and writes its log.
-pub(crate) fn play<O: Sink>(alloc: Global, budget: u64, bytes: &[u8], out: &mut O) -> Status
+pub(crate) fn play_bytes<O: Sink>(alloc: Global, budget: u64, bytes: &[u8], out: &mut O) -> Status
     requires bounded { length bytes.now < 2 ^ 32 }
     requires budget { budget < 2 ^ 62 }
 
     // Which answer comes.
-    ensures done { result ≡ Status.Done
-        → IsPlayed budget (O.written out.old) (O.written out.new) 0 bytes.now }
-    ensures spent { result ≡ Status.Spent
-        → IsPlayed budget (O.written out.old) (O.written out.new) 8 bytes.now }
-    ensures refused { (r : Refusal) → result ≡ Status.Refused r
-        → refusal_in (play_of bytes.now) ≡ Some r }
-    ensures refuses { (r : Refusal) → refusal_in (play_of bytes.now) ≡ Some r
-        → (result ≡ Status.Refused r) ⊎ (result ≡ Status.Memory) }
-    ensures plays { (p : play_record) → play_of bytes.now ≡ Ok p
-        → (result ≡ Status.Done) ⊎ (result ≡ Status.Spent)
-        ⊎ (result ≡ Status.Unwritten) ⊎ (result ≡ Status.Memory) }
+    ensures answer { IsFault result ⊎ (result ≡ status_of budget (placed (play_of bytes.now))) }
     ensures form { result ≢ Status.Usage }
     ensures read { (file : FileId) → result ≢ Status.Unread file }
 
     // What is written, and which fault is answered.
-    ensures made { (result ≡ Status.Done) ⊎ (result ≡ Status.Spent)
-        → WritesLineByLine budget (O.writes out.old) (O.writes out.new) bytes.now }
-    ensures part { (result ≡ Status.Unwritten) ⊎ (result ≡ Status.Memory)
-        → IsPartlyPlayed budget (O.written out.old) (O.written out.new) bytes.now }
+    ensures whole { IsFault result
+        ⊎ WritesAll O.Sink out.old out.new (lines_of budget (placed (play_of bytes.now))) }
+    ensures broken { result ≡ Status.Unwritten
+        → BreaksOff O.Sink out.old out.new (lines_of budget (placed (play_of bytes.now))) }
+    ensures stopped { result ≡ Status.Memory
+        → StopsBefore O.Sink out.old out.new (lines_of budget (placed (play_of bytes.now))) }
     ensures untouched { WritesNothing result → out.new ≡ out.old }
-    ensures spared { (r : Refusal) → refusal_in (play_of bytes.now) ≡ Some r
-        → out.new ≡ out.old }
+    ensures spared { (r : Refusal) → placed (play_of bytes.now) ≡ Err r → out.new ≡ out.old }
     ensures unwritten { result ≡ Status.Unwritten → Rose (O.faults out.old) (O.faults out.new) }
     ensures kept { (result ≡ Status.Unwritten) ⊎ (O.faults out.new ≡ O.faults out.old) }
 {
@@ -61,7 +102,7 @@ pub(crate) fn play<O: Sink>(alloc: Global, budget: u64, bytes: &[u8], out: &mut 
 }
 
 /// The file that the command names breaks this rule at this place.
-pub(crate) fn refused(why: Why, place: u64) -> Status
+fn refused(why: Why, place: u64) -> Status
     ensures { result ≡ Status.Refused (main_refusal why place) }
 {
     Status::Refused(Refusal {

@@ -1,39 +1,65 @@
 //! All that the program does, over any shelf and sinks.
-ghost use Rattle.std.specs.Prelude.{◌≡◌, ◌^◌, ◌≤◌, ◌↔◌, ◌⊎◌, ℕ, Some, None, Ok, length, map};
-ghost use Rattle.std.specs.Prelude.{string_bytes};
-ghost use Rattle.std.specs.Option.{option_copied};
-ghost use Rattle.bus_specs.specs.History.{Play};
-ghost use Rattle.play_specs.specs.PlayText.{play_of};
+ghost use Rattle.std.specs.Prelude.{◌≡◌, ◌↔◌, ◌⊎◌, ℕ, List, Some, None, map, string_bytes};
+ghost use Rattle.bench_outside.specs.Shelf.{Contents};
 ghost use Rattle.bench_outside.specs.Causes.{Rose};
-ghost use Rattle.bench_outside.specs.Sink.{Appended};
+ghost use Rattle.bench_outside.specs.Pieces.{WritesAll, BreaksOff};
 ghost use Rattle.bench_outside.specs.declared.refusal.FileId.{FileId};
 ghost use Rattle.bench_outside.specs.declared.refusal.Refusal.{Refusal};
-ghost use Rattle.bench.specs.Words.{file_of as file_in, OfFile};
-ghost use Rattle.bench.specs.Statuses.{WritesNothing};
-ghost use Rattle.bench.specs.Refusals.{refusal_of};
-ghost use Rattle.bench.specs.Plays.{IsPlayed, IsPartlyPlayed, WritesLineByLine};
-ghost use Rattle.bench.specs.Report.{report_text};
+ghost use Rattle.bench.specs.Words.{Command as command, command_of as command_in, name_in_words};
+ghost use Rattle.bench.specs.Deed.{Deed, CarriedOut, Caused};
+ghost use Rattle.bench.specs.Deeds.{Does};
+ghost use Rattle.bench.specs.Report.{report_pieces};
 
-use crate::fetching::{FetchError, fetch};
-use crate::playing::{play, refused};
-use crate::reporting::reported;
+use crate::carrying::carry_out;
+use crate::reporting::report_status;
 use crate::status::Status;
-use bench_outside::{FileId, Shelf, Sink, Why};
+use crate::words::command_of;
+use bench_outside::{Shelf, Sink};
 use std::alloc::Global;
 
-/// The greatest length of a file, in bytes.
-const LIMIT: u64 = 16_777_216;
+/// Carries out the command that the words are: all that the program does but its report.
+pub fn execute<H: Shelf, O: Sink>(
+    alloc: Global,
+    words: &[String],
+    shelf: &mut H,
+    out: &mut O,
+) -> Status
+    // Which answer comes, and what is written. Want of memory is the only answer that may always come.
+    ensures usage { (result ≡ Status.Usage) ↔ (command_in (map string_bytes words.now) ≡ None) }
+    ensures carried { (c : command) (held : Contents)
+        → command_in (map string_bytes words.now) ≡ Some c → H.holds shelf.old ≡ Some held
+        → (deed : Deed) × Does c held deed
+        × CarriedOut O.Sink deed out.old out.new (H.read_faults shelf.new).last result }
 
-/// The events that a play may have.
-const BUDGET: u64 = 1_000_000;
+    // Nothing is written where a file is refused, also where memory ran out before that was found.
+    ensures spared { (c : command) (held : Contents) (deed : Deed) (r : Refusal)
+        → command_in (map string_bytes words.now) ≡ Some c → H.holds shelf.old ≡ Some held
+        → Does c held deed → deed.status ≡ Status.Refused r → out.new ≡ out.old }
 
-/// The limits are those of the format: a file of 2^24 bytes, and a million events.
-pub fn limits_are_those_of_the_format()
-    ensures bytes { LIMIT ≡ 2 ^ 24 }
-    ensures events { BUDGET ≡ 10 ^ 6 }
-{}
+    // Where no fault was counted it ends as it has to.
+    ensures complete { (c : command) (held : Contents)
+        → command_in (map string_bytes words.now) ≡ Some c → H.holds shelf.old ≡ Some held
+        → ¬ (Rose (H.read_faults shelf.old).count (H.read_faults shelf.new).count)
+        → ¬ (Rose (O.faults out.old) (O.faults out.new))
+        → (deed : Deed) × Does c held deed × ((result ≡ deed.status) ⊎ (result ≡ Status.Memory)) }
 
-/// Does all that the program does, and reports how it ended.
+    // Each fault is answered and each answer of a fault has one; the shelf holds what it held.
+    ensures caused { Caused H.Shelf O.Sink shelf.old shelf.new out.old out.new result }
+    ensures named { (c : command) (file : FileId) (name : List ℕ)
+        → command_in (map string_bytes words.now) ≡ Some c → result ≡ Status.Unread file
+        → name_in_words c file ≡ Some name → (H.read_faults shelf.new).last ≡ name }
+
+    // Without a command the shelf isn't even read.
+    ensures idle { result ≡ Status.Usage → shelf.new ≡ shelf.old }
+{
+    match command_of(words) {
+        Some(command) => carry_out(alloc, command, shelf, out),
+        None => Status::Usage,
+    }
+}
+
+/// Does all that the program does: `execute`, and then the line on its status. A fault of the report
+/// changes no status.
 pub fn bench<H: Shelf, O: Sink, R: Sink>(
     alloc: Global,
     words: &[String],
@@ -41,79 +67,34 @@ pub fn bench<H: Shelf, O: Sink, R: Sink>(
     out: &mut O,
     report: &mut R,
 ) -> Status
-    // Which answer comes. Want of memory is the only one that may always come.
-    ensures usage { (result ≡ Status.Usage) ↔ (file_in (map string_bytes words.now) ≡ None) }
-    ensures done { result ≡ Status.Done
-        → OfFile (H.holds shelf.old) (file_in (map string_bytes words.now))
-        (IsPlayed BUDGET (O.written out.old) (O.written out.new) 0) }
-    ensures spent { result ≡ Status.Spent
-        → OfFile (H.holds shelf.old) (file_in (map string_bytes words.now))
-        (IsPlayed BUDGET (O.written out.old) (O.written out.new) 8) }
-    ensures refused { (r : Refusal) → result ≡ Status.Refused r
-        → OfFile (H.holds shelf.old) (file_in (map string_bytes words.now))
-        (λ bytes. refusal_of LIMIT bytes ≡ Some r) }
-    ensures refuses { OfFile (H.holds shelf.old) (file_in (map string_bytes words.now))
-        (λ bytes. (r : Refusal) → refusal_of LIMIT bytes ≡ Some r → (result ≡ Status.Refused r)
-        ⊎ (result ≡ Status.Unread FileId.Main) ⊎ (result ≡ Status.Memory)) }
-    ensures complete { ¬ (Rose (H.read_faults shelf.old).count (H.read_faults shelf.new).count)
+    // As `execute`.
+    ensures usage { (result ≡ Status.Usage) ↔ (command_in (map string_bytes words.now) ≡ None) }
+    ensures carried { (c : command) (held : Contents)
+        → command_in (map string_bytes words.now) ≡ Some c → H.holds shelf.old ≡ Some held
+        → (deed : Deed) × Does c held deed
+        × CarriedOut O.Sink deed out.old out.new (H.read_faults shelf.new).last result }
+    ensures spared { (c : command) (held : Contents) (deed : Deed) (r : Refusal)
+        → command_in (map string_bytes words.now) ≡ Some c → H.holds shelf.old ≡ Some held
+        → Does c held deed → deed.status ≡ Status.Refused r → out.new ≡ out.old }
+    ensures complete { (c : command) (held : Contents)
+        → command_in (map string_bytes words.now) ≡ Some c → H.holds shelf.old ≡ Some held
+        → ¬ (Rose (H.read_faults shelf.old).count (H.read_faults shelf.new).count)
         → ¬ (Rose (O.faults out.old) (O.faults out.new))
-        → OfFile (H.holds shelf.old) (file_in (map string_bytes words.now))
-        (λ bytes. (p : Play) → play_of bytes ≡ Ok p → length bytes ≤ LIMIT
-        → (result ≡ Status.Done) ⊎ (result ≡ Status.Spent) ⊎ (result ≡ Status.Memory)) }
-
-    // An answer that names a fault comes only where there was one, and each fault is answered.
-    ensures unread { (file : FileId) → result ≡ Status.Unread file
-        → Rose (H.read_faults shelf.old).count (H.read_faults shelf.new).count }
-    ensures named { (file : FileId) → result ≡ Status.Unread file
-        → file_in (map string_bytes words.now) ≡ Some (H.read_faults shelf.new).last }
-    ensures unblamed { (result ≡ Status.Unread FileId.Main)
-        ⊎ (H.read_faults shelf.new ≡ H.read_faults shelf.old) }
-    ensures unwritten { result ≡ Status.Unwritten → Rose (O.faults out.old) (O.faults out.new) }
-    ensures kept { (result ≡ Status.Unwritten) ⊎ (O.faults out.new ≡ O.faults out.old) }
-
-    // What is written: each line of the log by one write, or else a first part of it, and nothing
-    // where the file is refused.
-    ensures made { (result ≡ Status.Done) ⊎ (result ≡ Status.Spent)
-        → OfFile (H.holds shelf.old) (file_in (map string_bytes words.now))
-        (WritesLineByLine BUDGET (O.writes out.old) (O.writes out.new)) }
-    ensures part { (result ≡ Status.Unwritten) ⊎ (result ≡ Status.Memory)
-        → OfFile (H.holds shelf.old) (file_in (map string_bytes words.now))
-        (IsPartlyPlayed BUDGET (O.written out.old) (O.written out.new)) }
-    ensures untouched { WritesNothing result → out.new ≡ out.old }
-    ensures spared { OfFile (H.holds shelf.old) (file_in (map string_bytes words.now))
-        (λ bytes. (r : Refusal) → refusal_of LIMIT bytes ≡ Some r → out.new ≡ out.old) }
-
-    // The shelf holds what it held, and without a form of the words it isn't even read.
-    ensures holds { H.holds shelf.new ≡ H.holds shelf.old }
-    ensures others { H.write_faults shelf.new ≡ H.write_faults shelf.old }
+        → (deed : Deed) × Does c held deed × ((result ≡ deed.status) ⊎ (result ≡ Status.Memory)) }
+    ensures caused { Caused H.Shelf O.Sink shelf.old shelf.new out.old out.new result }
+    ensures named { (c : command) (file : FileId) (name : List ℕ)
+        → command_in (map string_bytes words.now) ≡ Some c → result ≡ Status.Unread file
+        → name_in_words c file ≡ Some name → (H.read_faults shelf.new).last ≡ name }
     ensures idle { result ≡ Status.Usage → shelf.new ≡ shelf.old }
 
-    // The report is the line on the answer, and its faults change no answer.
+    // The report is the line on the status. At a fault it is a first part of it, and nothing behind.
     ensures report { ¬ (Rose (R.faults report.old) (R.faults report.new))
-        → Appended (R.written report.old) (R.written report.new) (report_text result) }
+        → WritesAll R.Sink report.old report.new (report_pieces result) }
+    ensures report_part { WritesAll R.Sink report.old report.new (report_pieces result)
+        ⊎ BreaksOff R.Sink report.old report.new (report_pieces result) }
     ensures silent { result ≡ Status.Done → report.new ≡ report.old }
 {
-    let Some(name) = file_of(words) else {
-        return reported(report, Status::Usage);
-    };
-    match fetch(alloc, shelf, name, LIMIT) {
-        Ok(bytes) => reported(report, play(alloc, BUDGET, &bytes, out)),
-        Err(FetchError::Unread) => reported(report, Status::Unread(FileId::Main)),
-        Err(FetchError::Size) => reported(report, refused(Why::Size, LIMIT)),
-        Err(FetchError::Memory) => reported(report, Status::Memory),
-    }
-}
-
-/// The file that is to be played, where the words are `play FILE`.
-fn file_of(words: &[String]) -> Option<&str>
-    ensures { option_copied result ≡ file_in (map string_bytes words.now) }
-{
-    let [command, file] = words else {
-        return None;
-    };
-    if command.as_str() == "play" {
-        Some(file.as_str())
-    } else {
-        None
-    }
+    let status = execute(alloc, words, shelf, out);
+    report_status(report, &status);
+    status
 }

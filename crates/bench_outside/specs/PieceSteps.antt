@@ -4,7 +4,7 @@ use Rattle.std.proofs.Common.{sym, ap, ◌∙◌, append_assoc, arith, length-ap
 use Rattle.std.proofs.lemmas.List.{append-nil}
 use Rattle.std.proofs.lemmas.Grind.{flat_map-append}
 use Rattle.bench_outside.specs.Causes.{count_after}
-use Rattle.bench_outside.specs.Sink.{Appended, AppendedPart, IsPrefix, Counted}
+use Rattle.bench_outside.specs.Sink.{Appended, AppendedPart, Counted}
 use Rattle.bench_outside.specs.declared.sink.Sink.{Ghosts}
 use Rattle.bench_outside.specs.Pieces.{joined, WritesAll, BreaksOff, StopsBefore}
 
@@ -36,25 +36,25 @@ joined-append : (ps qs : List (List ℕ)) → joined (ps ++ qs) ≡ joined ps ++
 joined-append ps qs = flat_map-append (λ piece. piece) ps qs
 
 module _ {S : Type 0} (sink : Ghosts S) where
-  pub writes-nothing : (s : S) → WritesAll sink s s []
-  writes-nothing s = record { bytes = appended-nothing (sink.written s); made = counted-none (sink.writes s) }
+  pub writes_nothing : (s : S) → WritesAll sink s s []
+  writes_nothing s = record { bytes = appended-nothing (sink.written s); made = counted-none (sink.writes s) }
 
-  pub writes-one : (a b : S) (piece : List ℕ) → Appended (sink.written a) (sink.written b) piece
+  pub writes_one : (a b : S) (piece : List ℕ) → Appended (sink.written a) (sink.written b) piece
       → Counted (sink.writes a) (sink.writes b) 1 → WritesAll sink a b (piece ∷ [])
-  writes-one a b piece wrote made = record { bytes = rw (append-nil piece) wrote; made = made }
+  writes_one a b piece wrote made = record { bytes = rw (append-nil piece) wrote; made = made }
 
-  pub writes-behind : (a b c : S) (ps qs : List (List ℕ))
+  pub writes_behind : (a b c : S) (ps qs : List (List ℕ))
       → WritesAll sink a b ps → WritesAll sink b c qs → WritesAll sink a c (ps ++ qs)
-  writes-behind a b c ps qs first second = record {
+  writes_behind a b c ps qs first second = record {
     bytes = rw (joined-append ps qs)
         (appended-twice _ (sink.written b) _ (joined ps) (joined qs) first.bytes second.bytes);
     made = rw (length-append ps qs)
         (counted-twice _ (sink.writes b) _ (length ps) (length qs) first.made second.made);
   }
 
-  pub breaks-one : (a b : S) (piece : List ℕ) → AppendedPart (sink.written a) (sink.written b) piece
+  pub breaks_one : (a b : S) (piece : List ℕ) → AppendedPart (sink.written a) (sink.written b) piece
       → Counted (sink.writes a) (sink.writes b) 1 → BreaksOff sink a b (piece ∷ [])
-  breaks-one a b piece wrote made = record {
+  breaks_one a b piece wrote made = record {
     whole = [];
     next = piece;
     rest = [];
@@ -66,9 +66,9 @@ module _ {S : Type 0} (sink : Ghosts S) where
   }
 
   -- pieces that were written, a break in those behind them, and pieces that weren't reached
-  pub breaks-behind : (a b c : S) (ps qs rs all : List (List ℕ)) → WritesAll sink a b ps
+  pub breaks_behind : (a b c : S) (ps qs rs all : List (List ℕ)) → WritesAll sink a b ps
       → BreaksOff sink b c qs → ps ++ (qs ++ rs) ≡ all → BreaksOff sink a c all
-  breaks-behind a b c ps qs rs all first second whole = record {
+  breaks_behind a b c ps qs rs all first second whole = record {
     whole = ps ++ second.whole;
     next = second.next;
     rest = second.rest ++ rs;
@@ -87,21 +87,21 @@ module _ {S : Type 0} (sink : Ghosts S) where
       count-assoc m n = omega arith
 
   -- pieces that were written, and nothing behind them
-  pub stops-behind : (a b c : S) (ps qs rs all : List (List ℕ)) → WritesAll sink a b ps
+  pub stops_behind : (a b c : S) (ps qs rs all : List (List ℕ)) → WritesAll sink a b ps
       → StopsBefore sink b c qs → ps ++ (qs ++ rs) ≡ all → StopsBefore sink a c all
-  stops-behind a b c ps qs rs all first second whole = record {
+  stops_behind a b c ps qs rs all first second whole = record {
     whole = ps ++ second.whole;
     rest = second.rest ++ rs;
     order = sym whole ∙ ap (λ x. ps ++ (x ++ rs)) second.order
         ∙ ap (λ x. ps ++ x) (append_assoc second.whole second.rest rs)
         ∙ sym (append_assoc ps second.whole (second.rest ++ rs));
-    written = writes-behind a b c ps second.whole first second.written;
+    written = writes_behind a b c ps second.whole first second.written;
   }
 
-  pub stops-at : (a b : S) (ps rs all : List (List ℕ)) → WritesAll sink a b ps → ps ++ rs ≡ all
+  pub stops_at : (a b : S) (ps rs all : List (List ℕ)) → WritesAll sink a b ps → ps ++ rs ≡ all
       → StopsBefore sink a b all
-  stops-at a b ps rs all first whole = record { whole = ps; rest = rs; order = sym whole; written = first }
+  stops_at a b ps rs all first whole = record { whole = ps; rest = rs; order = sym whole; written = first }
 
   -- nothing was written at all
-  pub stops-untouched : (s : S) (all : List (List ℕ)) → StopsBefore sink s s all
-  stops-untouched s all = stops-at s s [] all all (writes-nothing s) refl
+  pub stops_untouched : (s : S) (all : List (List ℕ)) → StopsBefore sink s s all
+  stops_untouched s all = stops_at s s [] all all (writes_nothing s) refl

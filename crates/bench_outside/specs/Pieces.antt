@@ -1,6 +1,6 @@
 -- Pieces that are written to a sink one behind the other, each by one write.
 -- Clauses cite this at a bound `O: Sink`.
-use Rattle.std.specs.Prelude.{◌≡◌, ◌⊎◌, ◌+◌, ℕ, List, [], ◌∷◌, ◌++◌, length, flat_map, refl}
+use Rattle.std.specs.Prelude.{◌≡◌, ◌+◌, ℕ, List, [], ◌∷◌, ◌++◌, length, flat_map, refl}
 use Rattle.bench_outside.specs.Sink.{Appended, IsPrefix, Counted}
 use Rattle.bench_outside.specs.declared.sink.Sink.{Ghosts}
 

@@ -4,7 +4,7 @@ use Rattle.std.proofs.lemmas.List.{map-append, take_more, at_drop_more, take-app
 use Rattle.std.specs.Prelude.{Result, Ok, Err, OnOk, IfOk}
 use Rattle.bench_outside.specs.declared.sink.Sink.{Ghosts}
 use Rattle.bench_outside.specs.Pieces.{WritesAll, BreaksOff, StopsBefore}
-use Rattle.bench_outside.specs.PieceSteps.{writes-behind, breaks-behind, stops-at, stops-behind}
+use Rattle.bench_outside.specs.PieceSteps.{writes_behind, breaks_behind, stops_at, stops_behind}
 
 -- one line more
 pub take-line : {L : Type 0} (lines : List L) (i : ℕ) (line : L) → i < length lines → line ≡ get_or lines i line
@@ -39,24 +39,24 @@ module _ {S L : Type 0} (sink : Ghosts S) (text : L → List ℕ) where
   pub wrote-behind : (a b c : S) (before next all : List L) → before ++ next ≡ all
       → WritesAll sink a b (map text before) → WritesAll sink b c (map text next) → WritesAll sink a c (map text all)
   wrote-behind a b c before next all whole first second =
-      rw (← pieces before next all whole) (writes-behind sink a b c (map text before) (map text next) first second)
+      rw (← pieces before next all whole) (writes_behind sink a b c (map text before) (map text next) first second)
 
   pub broke-behind : (a b c : S) (before next rest all : List L) → (before ++ next) ++ rest ≡ all
       → WritesAll sink a b (map text before) → BreaksOff sink b c (map text next) → BreaksOff sink a c (map text all)
   broke-behind a b c before next rest all whole first second =
-      breaks-behind sink a b c (map text before) (map text next) (map text rest) (map text all) first second
+      breaks_behind sink a b c (map text before) (map text next) (map text rest) (map text all) first second
       (three-pieces before next rest all whole)
 
   pub stopped-behind : (a b c : S) (before next rest all : List L) → (before ++ next) ++ rest ≡ all
       → WritesAll sink a b (map text before) → StopsBefore sink b c (map text next) → StopsBefore sink a c (map text all)
   stopped-behind a b c before next rest all whole first second =
-      stops-behind sink a b c (map text before) (map text next) (map text rest) (map text all) first second
+      stops_behind sink a b c (map text before) (map text next) (map text rest) (map text all) first second
       (three-pieces before next rest all whole)
 
   pub stopped-at : (a b : S) (before rest all : List L) → before ++ rest ≡ all
       → WritesAll sink a b (map text before) → StopsBefore sink a b (map text all)
   stopped-at a b before rest all whole first =
-      stops-at sink a b (map text before) (map text rest) (map text all) first (pieces before rest all whole)
+      stops_at sink a b (map text before) (map text rest) (map text all) first (pieces before rest all whole)
 
 pub on_ok : {T E : Type 0} {P Q : Type 0} (r : Result T E) → (P → Q) → OnOk r P → OnOk r Q
 on_ok (Ok x) f h = f h
