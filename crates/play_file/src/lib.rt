@@ -1,15 +1,15 @@
-//! Reading a play file: what the nodes of a bus are to send, and when.
+//! Reading a play file: a bus, the errors on its wire, and what its nodes do at which moment.
 #![tactic(auto)]
 
 mod action;
+mod draft;
 mod error;
 mod header;
-mod line;
 mod play;
 mod reading;
 mod text;
 
-pub use action::Action;
+pub use action::{Action, Verb};
 pub use error::PlayError;
 pub use play::Play;
 pub use reading::read_play;
