@@ -20,7 +20,7 @@ use Rattle.play_file.proofs.Written.{lines_taken, lines_plain}
 feed_is_none : (b : ℕ) → 10 ≡ b → (b == 10) ≡ false → ⊥
 feed_is_none b same other = let e : (b == 10) ≡ true = grind (arith, nat_tests) in let never : true ≡ false = sym e ∙ other in cc
 
-same_line : (x y s t : List ℕ) → Without 10 x → Without 10 y → x ++ 10 ∷ s ≡ y ++ 10 ∷ t → (x ≡ y) × (s ≡ t)
+pub same_line : (x y s t : List ℕ) → Without 10 x → Without 10 y → x ++ 10 ∷ s ≡ y ++ 10 ∷ t → (x ≡ y) × (s ≡ t)
 same_line [] [] s t wx wy same = (refl, cc)
 same_line [] (b ∷ bs) s t wx wy same = let e : 10 ≡ b = cc in absurd (feed_is_none b e wy.0)
 same_line (b ∷ bs) [] s t wx wy same = let e : 10 ≡ b = cc in absurd (feed_is_none b e wx.0)
@@ -29,16 +29,16 @@ same_line (b ∷ bs) (c ∷ cs) s t wx wy same =
     let rest = same_line bs cs s t wx.1 wy.1 (cc) in
     (cc (first, rest.0), rest.1)
 
-no_line : (u line rest : List ℕ) → Without 10 u → u ≡ line ++ 10 ∷ rest → ⊥
+pub no_line : (u line rest : List ℕ) → Without 10 u → u ≡ line ++ 10 ∷ rest → ⊥
 no_line [] [] rest none is = cc
 no_line [] (c ∷ cs) rest none is = cc
 no_line (b ∷ bs) [] rest none is = let e : 10 ≡ b = cc in feed_is_none b e none.0
 no_line (b ∷ bs) (c ∷ cs) rest none is = no_line bs cs rest none.1 (cc)
 
-no_line_in_nothing : (line rest : List ℕ) → [] ≡ line ++ 10 ∷ rest → ⊥
+pub no_line_in_nothing : (line rest : List ℕ) → [] ≡ line ++ 10 ∷ rest → ⊥
 no_line_in_nothing line rest is = no_line [] line rest tt is
 
-ended-cons : (x : List ℕ) (xs : List (List ℕ)) (u : List ℕ) → ended (x ∷ xs) ++ u ≡ x ++ 10 ∷ (ended xs ++ u)
+pub ended-cons : (x : List ℕ) (xs : List (List ℕ)) (u : List ℕ) → ended (x ∷ xs) ++ u ≡ x ++ 10 ∷ (ended xs ++ u)
 ended-cons x xs u = ap (λ ys. ys ++ u) (flat_map-cons (λ (line : List ℕ). line ++ 10 ∷ []) x xs ∙ append_assoc x (10 ∷ []) (ended xs)) ∙ append_assoc x (10 ∷ ended xs) u
 
 ended-push : (xs : List (List ℕ)) (x u : List ℕ) → ended (xs ++ x ∷ []) ++ u ≡ ended xs ++ (x ++ 10 ∷ u)
@@ -72,16 +72,16 @@ plain_front : (xs ys : List (List ℕ)) → AllWithout 10 (xs ++ ys) → AllWith
 plain_front [] ys plain = tt
 plain_front (x ∷ xs) ys plain = (plain.0, plain_front xs ys plain.1)
 
-plain_last : (xs : List (List ℕ)) (x : List ℕ) → AllWithout 10 (xs ++ x ∷ []) → Without 10 x
+pub plain_last : (xs : List (List ℕ)) (x : List ℕ) → AllWithout 10 (xs ++ x ∷ []) → Without 10 x
 plain_last [] x plain = plain.0
 plain_last (y ∷ ys) x plain = plain_last ys x plain.1
 
-begins_plain : (lines : List (List ℕ)) → Begins lines → AllWithout 10 lines
+pub begins_plain : (lines : List (List ℕ)) → Begins lines → AllWithout 10 lines
 begins_plain lines begins =
     let P : List (List ℕ) → Type 0 = AllWithout 10 in
     plain_front lines begins.2 (subst P begins.3 (lines_plain begins.0 begins.1))
 
-begins_less : (before : List (List ℕ)) (line : List ℕ) (more : List (List ℕ)) (lines : List (List ℕ)) → lines ≡ before ++ line ∷ more → Begins lines → Begins (before ++ line ∷ [])
+pub begins_less : (before : List (List ℕ)) (line : List ℕ) (more : List (List ℕ)) (lines : List (List ℕ)) → lines ≡ before ++ line ∷ more → Begins lines → Begins (before ++ line ∷ [])
 begins_less before line more lines same begins =
     (begins.0, begins.1, more ++ begins.2, begins.3 ∙ ap (λ ls. ls ++ begins.2) same ∙ append_assoc before (line ∷ more) begins.2 ∙ sym (append_assoc before (line ∷ []) (more ++ begins.2)))
 

@@ -7,3 +7,5 @@ pub mod Files
 pub mod Cuts
 pub mod Digits
 pub mod Walked
+pub mod FileLaws
+pub mod FileValues

@@ -1,4 +1,5 @@
 pub mod Parts
 pub mod Walk
 pub mod Verbs
+pub mod FileLines
 pub mod Answers
