@@ -1,4 +1,5 @@
-pub mod Playable
 pub mod Parts
-pub mod Asked
+pub mod Walk
+pub mod Verbs
+pub mod FileLines
 pub mod Answers

@@ -1,36 +1,47 @@
 //! One action of a play.
 ghost use Rattle.std.specs.Prelude.{◌≡◌};
-ghost use Rattle.bus_specs.specs.Submit.{Transmit};
+ghost use Rattle.play_file.specs.Verbs.{verb_of};
 
 use can_frame::Frame;
 use std::marker::Model;
 
-/// A frame that a node is to send at a moment.
+/// What a node does.
+#[derive(Drop)]
+pub enum Verb {
+    /// It sends a frame.
+    Send(Frame),
+    /// It wakes up.
+    Wake,
+    /// It goes to sleep.
+    Sleep,
+    /// From now on a frame of it that loses arbitration waits on.
+    Keep,
+    /// From now on a frame of it that loses arbitration is discarded.
+    Discard,
+}
+
+/// What a node does at a moment.
 #[derive(Drop)]
 pub struct Action {
     moment: u64,
     node: u32,
-    frame: Frame,
+    verb: Verb,
 }
 
 impl Model for Action {
-    ghost use Rattle.bus_specs.specs.Submit.{Transmit};
-    ghost use Rattle.bus_specs.specs.History.{Action as action};
+    ghost use Rattle.play_specs.specs.Play.{PlayAction};
+    ghost use Rattle.play_file.specs.Verbs.{verb_of};
 
-    ghost Value = { action };
+    ghost Value = { PlayAction };
 
-    ghost view = { λ a. record { moment = a.moment; node = a.node; what = Transmit a.frame } };
+    ghost view = { λ a. record { moment = a.moment; node = a.node; verb = verb_of a.verb } };
 }
 
 impl Action {
-    pub(crate) fn new(moment: u64, node: u32, frame: Frame) -> Action
-        ensures { result ≡ record { moment = moment; node = node; what = Transmit frame } }
+    pub(crate) fn new(moment: u64, node: u32, verb: Verb) -> Action
+        ensures { result ≡ record { moment = moment; node = node; verb = verb_of verb } }
     {
-        Action {
-            moment,
-            node,
-            frame,
-        }
+        Action { moment, node, verb }
     }
 
     /// The moment, in ticks.
@@ -47,17 +58,17 @@ impl Action {
         self.node
     }
 
-    /// The frame.
-    pub fn frame(&self) -> &Frame
-        ensures { Transmit result.now ≡ self.now.what }
+    /// What the node does.
+    pub fn verb(&self) -> &Verb
+        ensures { verb_of result.now ≡ self.now.verb }
     {
-        &self.frame
+        &self.verb
     }
 
-    /// The frame alone.
-    pub fn into_frame(self) -> Frame
-        ensures { Transmit result ≡ self.what }
+    /// What the node does, alone.
+    pub fn into_verb(self) -> Verb
+        ensures { verb_of result ≡ self.verb }
     {
-        self.frame
+        self.verb
     }
 }

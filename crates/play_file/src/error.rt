@@ -5,11 +5,8 @@ use std::alloc::AllocError;
 /// Why a play file isn't read.
 #[derive(Clone, Copy, Debug, PartialEq, Eq)]
 pub enum PlayError {
-    /// The first line that breaks a rule, counted from 1. No line in front of it is Later.
+    /// The first line that breaks a rule, counted from 1.
     Line { number: u64 },
-    /// The first line whose form is right and that isn't carried out yet, counted from 1.
-    /// No line in front of it breaks a rule.
-    Later { number: u64 },
     /// Memory ran out.
     Memory,
 }

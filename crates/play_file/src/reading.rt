@@ -1,85 +1,65 @@
 //! Reading a play file, line by line.
-ghost use Rattle.std.specs.Prelude.{◌≡◌, ◌≤◌, ◌<◌, ◌^◌, ℕ, [], Ok, IfOk, IfErr, length};
+ghost use Rattle.std.specs.Prelude.{◌≡◌, ◌≤◌, ◌<◌, ◌^◌, ◌+◌, ℕ, Ok, Err, IfOk, IfErr, length};
 ghost use Rattle.play_specs.specs.Text.{parts};
-ghost use Rattle.play_specs.specs.PlayText.{play_of, play_with, actions_of, BadLine, LaterLine};
-ghost use Rattle.play_file.specs.Asked.{Fits};
-ghost use Rattle.play_file.specs.Playable.{IsPlayable};
-ghost use Rattle.play_file.specs.Answers.{NamesFault};
+ghost use Rattle.play_specs.specs.Play.{Play as play, IsPlay};
+ghost use Rattle.play_specs.specs.PlayText.{play_text};
+ghost use Rattle.play_specs.specs.PlayReading.{IsFirstBadLine, IsReadAs};
+ghost use Rattle.play_file.specs.Walk.{walk, walk_lines};
+ghost use Rattle.play_file.specs.Answers.{Names, Answers};
 
-use crate::header::{Header, read_header};
-use crate::line::{Asks, Draft, asked};
+use crate::draft::Draft;
+use crate::header::read_header;
 use crate::text::cut;
-use crate::{Action, Play, PlayError};
+use crate::{Play, PlayError};
 use std::alloc::Global;
 
-/// The play that a file asks for: a header, and a line for each action, each ended by a line feed.
-///
-/// The first line that breaks a rule is Line, and the first that isn't carried out yet Later,
-/// whichever comes first; a bus of one node is Later on line 1.
+/// The play whose text a file is: a header, error lines and action lines, each ended by a line feed.
+/// A file that is the text of no play is refused at its first bad line.
 pub fn read_play(alloc: Global, bytes: &[u8]) -> Result<Play, PlayError>
     requires bounded { length bytes.now < 2 ^ 32 }
-    ensures found { IfOk result (λ p. play_of bytes.now ≡ Ok p) }
-    ensures line { (n : ℕ) → result ≡ Err (PlayError.Line n) → play_of bytes.now ≡ Err (BadLine n) }
-    ensures later { (n : ℕ) → result ≡ Err (PlayError.Later n) → play_of bytes.now ≡ Err (LaterLine n) }
+    // The file is the text of what is read.
+    ensures found { IfOk result (λ p. IsReadAs bytes.now (Ok p)) }
+
+    // The text of each play is read as that play, unless memory runs out.
+    ensures only { (p : play) → IsPlay p → bytes.now ≡ play_text p → Answers result (Ok p) }
+
+    // The refused line is the first bad one.
+    ensures line { (n : ℕ) → result ≡ Err (PlayError.Line n) → IsFirstBadLine bytes.now n }
+
+    // A file with a first bad line is refused at it, unless memory runs out.
+    ensures refused { (n : ℕ) → IsFirstBadLine bytes.now n → Answers result (Err n) }
     ensures few { IfOk result (λ p. length p.actions ≤ length bytes.now) }
-    ensures playable { IfOk result (λ p. IsPlayable p) }
 {
     read(alloc, bytes)
 }
 
 fn read(alloc: Global, bytes: &[u8]) -> Result<Play, PlayError>
     requires { length bytes.now < 2 ^ 32 }
-    ensures found { IfOk result (λ p. play_of bytes.now ≡ Ok p) }
-    ensures fault { IfErr result (λ e. NamesFault e (play_of bytes.now)) }
-    ensures few { IfOk result (λ p. length p.actions ≤ length bytes.now) }
-    ensures playable { IfOk result (λ p. IsPlayable p) }
+    ensures found { IfOk result (λ p. walk bytes.now ≡ Ok p) }
+    ensures fault { IfErr result (λ e. Names e (walk bytes.now)) }
 {
     let Some((line, rest)) = cut(b'\n', bytes) else {
         return Err(PlayError::Line { number: 1 });
     };
-    let Some(header) = read_header(line) else {
+    let Some(header) = read_header(alloc, line) else {
         return Err(PlayError::Line { number: 1 });
     };
-    if header.nodes == 1 {
-        return Err(PlayError::Later { number: 1 });
-    }
-    let actions = actions(alloc, &header, rest)?;
-    Ok(play(header, actions))
+    let draft = read_lines(alloc, header, rest)?;
+    Ok(draft.into_play())
 }
 
-/// The play with this header and these actions.
-fn play(header: Header, actions: Vec<Action>) -> Play
-    requires several { 2 ≤ header.nodes }
-    requires fits { Fits header actions.items }
-    ensures value { result ≡ play_with header actions.items }
-    ensures playable { IsPlayable result }
+/// The play of the lines behind its header.
+fn read_lines(alloc: Global, header: Draft, text: &[u8]) -> Result<Draft, PlayError>
+    requires { length text.now < 2 ^ 32 }
+    ensures found { IfOk result (λ p. walk_lines 2 header (parts 10 text.now) ≡ Ok p) }
+    ensures fault { IfErr result (λ e. Names e (walk_lines 2 header (parts 10 text.now))) }
 {
-    Play {
-        nominal: header.nominal,
-        fast: header.fast,
-        nodes: header.nodes,
-        stop: header.stop,
-        actions,
-    }
-}
-
-/// The actions of the lines behind the header.
-fn actions(alloc: Global, header: &Header, text: &[u8]) -> Result<Vec<Action>, PlayError>
-    requires several { 2 ≤ header.now.nodes }
-    requires bounded { length text.now < 2 ^ 32 }
-    ensures found { IfOk result (λ v. actions_of header.now 2 (record { last = 0; actions = [] }) (parts 10 text.now) ≡ Ok v.items) }
-    ensures fault { IfErr result (λ e. NamesFault e (actions_of header.now 2 (record { last = 0; actions = [] }) (parts 10 text.now))) }
-    ensures few { IfOk result (λ v. length v.items ≤ length text.now) }
-    ensures fits { IfOk result (λ v. Fits header.now v.items) }
-{
-    let mut draft = Draft::new(alloc);
+    let mut draft = header;
     let mut number = 2;
     let mut rest = text;
     while let Some((line, after)) = cut(b'\n', rest) {
-        match asked(alloc, header, &draft, line)? {
-            Some(Asks::Sends(action)) => draft.push(action)?,
-            Some(Asks::NotYet) => return Err(PlayError::Later { number }),
-            None => return Err(PlayError::Line { number }),
+        if !draft.take(alloc, line)? {
+            return Err(PlayError::Line { number });
         }
         number += 1;
         rest = after;
@@ -87,5 +67,5 @@ fn actions(alloc: Global, header: &Header, text: &[u8]) -> Result<Vec<Action>, P
     if !rest.is_empty() {
         return Err(PlayError::Line { number });
     }
-    Ok(draft.into_actions())
+    Ok(draft)
 }

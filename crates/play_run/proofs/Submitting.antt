@@ -1,6 +1,6 @@
 -- The actions of a moment, one after another, and the nodes that take their notices.
 use Rattle.std.proofs.Common.{◌≡◌, ◌≤◌, ◌^◌, ℕ, zero, suc, Bool, true, false, inl, inr, List, [], ◌∷◌, ◌++◌, All, fold, filter, map, take, get_or, refl, sym, ap, ◌∙◌, arith, subst, ◌<◌, ◌+◌, length}
-use Rattle.std.specs.Prelude.{◌==◌}
+use Rattle.std.specs.Prelude.{◌==◌, if◌then◌else◌}
 use Rattle.std.specs.List.{range_with_len}
 use Rattle.std.proofs.lemmas.List.{map-append}
 use Rattle.std.proofs.lemmas.List.Sums.{fold_more, fold-append}
@@ -11,7 +11,7 @@ use Rattle.bus_specs.specs.Submit.{submit, submission_of}
 use Rattle.bus_specs.specs.Inbox.{take_inbox, enter, has_notice}
 use Rattle.bus_sound.proofs.Among.{Among, filter-among}
 use Rattle.bus_sound.proofs.Lists.{All-each, among-map, map-among}
-use Rattle.bus_sound.proofs.Members.{is_from, member_is-map}
+use Rattle.bus_sound.proofs.Members.{KeepsNodes, is_from, member_is-map}
 use Rattle.bus_sound.proofs.Quiet.{one}
 use Rattle.bus_sound.proofs.Steady.{take-steady, enter-steady, steady-member, steady-live}
 use Rattle.operation_specs.specs.Reading.{Item}
@@ -141,8 +141,15 @@ entered-live : (nodes : List ℕ) (b : Bus) (n : ℕ) → member_is (λ m. m.liv
 entered-live [] b n h = h
 entered-live (k ∷ nodes) b n h = entered-live nodes (enter b k) n (steady-live b (enter b k) n (enter-steady b k) h)
 
+enters-keeps : (n : ℕ) → KeepsNodes (one n (λ m. record m { live = true }))
+enters-keeps n m = go (m.node == n)
+  where
+    go : (t : Bool) → (if t then record m { live = true } else m).node ≡ m.node
+    go true = refl
+    go false = refl
+
 enters-live : (b : Bus) (n : ℕ) → member_is (λ m. true) b.members n ≡ true → member_is (λ m. m.live) (enter b n).members n ≡ true
-enters-live b n h = member_is-map (λ m. true) (λ m. m.live) (one n (λ m. record m { live = true })) b.members n (enter-steady b n).node
+enters-live b n h = member_is-map (λ m. true) (λ m. m.live) (one n (λ m. record m { live = true })) b.members n (enters-keeps n)
     (λ m a e t. let same : (m.node == n) ≡ true = grind (arith, e) in rw same refl) h
 
 pub all-live : (nodes : List ℕ) (b : Bus) (n : ℕ) → Among nodes n → All (λ k. member_is (λ m. true) b.members k ≡ true) nodes
@@ -165,11 +172,11 @@ entered-attempts (k ∷ nodes) b = entered-attempts nodes (enter b k)
 
 in-range : (a n k : ℕ) → a ≤ k → k < a + n → Among (range_with_len a n) k
 in-range a zero k l u = absurd (omega (arith, l, u))
-in-range a (suc n) k l u = go (a == k) refl
+in-range a (suc n) k l u = go (a == k) refl (λ m. in-range (a + 1) n k m (omega (arith, u)))
   where
-    go : (t : Bool) → (a == k) ≡ t → Among (range_with_len a (suc n)) k
-    go true e = inl (grind arith)
-    go false e = inr (in-range (a + 1) n k (grind (arith, l)) (omega (arith, u)))
+    go : (t : Bool) → (a == k) ≡ t → (a + 1 ≤ k → Among (range_with_len (a + 1) n) k) → Among (range_with_len a (suc n)) k
+    go true e on = inl (grind arith)
+    go false e on = inr (on (grind (arith, l)))
 
 pub first-ready : (setup : Setup) (nodes : List ℕ) (count : ℕ) (actions : List Action) → nodes ≡ range_with_len 0 count
     → All (IsOfNodes count) actions → Rises 0 actions → length actions < 2 ^ 63
@@ -181,8 +188,8 @@ first-ready setup nodes count actions e all rises few = record {
       item = h.item;
       moment = h.moment;
     }) actions all;
-    numbered = rw (entered-next nodes (new_bus setup nodes)) few;
+    numbered = let n : (fold enter (new_bus setup nodes) nodes).next ≡ 0 = entered-next nodes (new_bus setup nodes) in omega (arith, few, n);
   };
   rises = rises;
-  attempted = rw (entered-attempts nodes (new_bus setup nodes)) (omega arith);
+  attempted = let n : (fold enter (new_bus setup nodes) nodes).attempts ≡ 0 = entered-attempts nodes (new_bus setup nodes) in omega (arith, n);
 }
