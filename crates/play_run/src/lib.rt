@@ -1,16 +1,17 @@
 //! The run of a play, event by event, and the writing of its log line by line.
 #![tactic(auto)]
 
-mod action;
+mod emission;
 mod ending;
 mod moment;
+mod play;
 mod playing;
 mod runner;
 mod script;
 mod writing;
 
-pub use action::Action;
+pub use emission::Emission;
 pub use ending::{Ending, RunError};
-pub use playing::run;
-pub use runner::Runner;
-pub use script::Script;
+pub use play::run;
+
+

@@ -6,7 +6,7 @@ ghost use Rattle.play_run.specs.Moments.{taken_by, carried_out, moment_of};
 ghost use Rattle.play_run.specs.Prefixes.{at_moment, behind_moment};
 ghost use Rattle.play_run.specs.Ready.{Takes};
 
-use crate::Action;
+use crate::Emission;
 use bus_log::{Line, LineList};
 use bus_medium::Medium;
 use std::alloc::{AllocError, Global};
@@ -42,7 +42,7 @@ fn take_notices(
 }
 
 /// Takes the action in front, if it is of this moment.
-fn take_at(ahead: &mut VecDeque<Action>, now: u64) -> Option<Action>
+fn take_at(ahead: &mut VecDeque<Emission>, now: u64) -> Option<Emission>
     ensures items { ahead.old.items ≡ option_to_list result ++ ahead.new.items }
     ensures moment { IfSome result (λ a. a.moment ≡ now) }
     ensures none { IfNone result (at_moment now ahead.old.items ≡ []) }
@@ -59,7 +59,7 @@ fn take_at(ahead: &mut VecDeque<Action>, now: u64) -> Option<Action>
 fn submit_at(
     alloc: Global,
     medium: &mut Medium,
-    ahead: &mut VecDeque<Action>,
+    ahead: &mut VecDeque<Emission>,
     now: u64,
     lines: &mut Vec<Line>,
 ) -> Result<(), AllocError>
@@ -80,7 +80,7 @@ fn submit_at(
 pub(crate) fn moment_lines(
     alloc: Global,
     medium: &mut Medium,
-    ahead: &mut VecDeque<Action>,
+    ahead: &mut VecDeque<Emission>,
     now: u64,
 ) -> Result<LineList, AllocError>
     requires takes { Takes ahead.old.items medium.old }

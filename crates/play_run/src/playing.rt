@@ -111,7 +111,7 @@ fn live_bus(alloc: Global, setup: BusSetup, nodes: u32) -> Result<Medium, AllocE
 /// write. `Unwritten` comes only where a write failed: the lines before that one stand there, of its
 /// own line a first part, and nothing behind it. `Memory` comes only where no write failed, and then
 /// whole lines stand there.
-pub fn run<O: Sink>(alloc: Global, budget: u64, script: Script, out: &mut O) -> Result<Ending, RunError>
+pub(crate) fn run_script<O: Sink>(alloc: Global, budget: u64, script: Script, out: &mut O) -> Result<Ending, RunError>
     requires runnable { IsRunnable script }
     requires budget { budget < 2 ^ 62 }
     ensures log { OnOk result

@@ -7,7 +7,7 @@ ghost use Rattle.bus_medium.specs.Dues.{due_of, what_of};
 ghost use Rattle.play_run.specs.Ready.{IsReady};
 ghost use Rattle.play_run.specs.Worlds.{world_of};
 
-use crate::Action;
+use crate::Emission;
 use crate::moment::moment_lines;
 use bus_log::LineList;
 use bus_medium::{Due, Medium, What};
@@ -19,7 +19,7 @@ use std::collections::VecDeque;
 pub struct Runner {
     medium: Medium,
     /// What is still asked, by moment.
-    ahead: VecDeque<Action>,
+    ahead: VecDeque<Emission>,
     /// The moment of the last event, in ticks.
     moment: u64,
     /// The events so far.
@@ -56,7 +56,7 @@ fn up_to(due: Option<Due>, stop: u64) -> Option<Due>
 
 impl Runner {
     /// A run before its first event, on a bus all of whose nodes are live. The actions stand by moment.
-    pub fn new(medium: Medium, actions: Vec<Action>) -> Runner
+    pub fn new(medium: Medium, actions: Vec<Emission>) -> Runner
         ensures { world_of result ≡ record { events = 0; now = 0; ahead = actions.items; bus = medium } }
     {
         Runner {

@@ -1,5 +1,5 @@
 //! What is run.
-use crate::Action;
+use crate::Emission;
 use bus_medium::BusSetup;
 
 /// A bus whose nodes are numbered from 0 on, and what they emit.
@@ -12,5 +12,5 @@ pub struct Script {
     /// The last moment at which something happens, in ticks.
     pub stop: u64,
     /// What the nodes emit, by moment.
-    pub actions: Vec<Action>,
+    pub actions: Vec<Emission>,
 }

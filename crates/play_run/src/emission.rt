@@ -7,13 +7,13 @@ use std::marker::Model;
 
 /// An item that a node emits at a moment.
 #[derive(Drop)]
-pub struct Action {
+pub struct Emission {
     moment: u64,
     node: u32,
     item: Item,
 }
 
-impl Model for Action {
+impl Model for Emission {
     ghost use Rattle.play_specs.specs.Scenario.{Action as action};
     ghost use Rattle.bus_ops.specs.Views.{item_of};
 
@@ -22,12 +22,12 @@ impl Model for Action {
     ghost view = { λ a. record { moment = a.moment; node = a.node; item = item_of a.item } };
 }
 
-impl Action {
+impl Emission {
     /// An item that a node emits at a moment, in ticks.
-    pub fn new(moment: u64, node: u32, item: Item) -> Action
+    pub fn new(moment: u64, node: u32, item: Item) -> Emission
         ensures { result ≡ record { moment = moment; node = node; item = item_of item } }
     {
-        Action { moment, node, item }
+        Emission { moment, node, item }
     }
 
     /// The moment, in ticks.

@@ -1,7 +1,7 @@
 use Rattle.std.proofs.Common.{rules, ◌≡◌, ◌∙◌}
 use Rattle.bus_medium.specs.Setups.{setup_of}
 use Rattle.play_run.proofs.Submitting.{first-ready}
-use Rattle.play_run.proofs.playing.run.Goals as goal
+use Rattle.play_run.proofs.playing.run_script.Goals as goal
 
 pub run_on-requires-clause-ready : goal.run_on-requires-clause-ready
 run_on-requires-clause-ready g c =
