@@ -47,3 +47,25 @@ pub(crate) fn is_off_at(members: &[Member], node: u32) -> bool
         None => false,
     }
 }
+
+/// Whether a node is error passive.
+pub(crate) fn is_passive_at(members: &[Member], node: u32) -> bool
+    requires rising { Rising members.now }
+    ensures { result ≡ member_is model.passive members.now node }
+{
+    match place_of(members, node) {
+        Some(place) => members[place].is_passive(),
+        None => false,
+    }
+}
+
+/// Whether a frame of the node that loses arbitration is discarded.
+pub(crate) fn discards_at(members: &[Member], node: u32) -> bool
+    requires rising { Rising members.now }
+    ensures { result ≡ member_is (λ m. m.discards) members.now node }
+{
+    match place_of(members, node) {
+        Some(place) => members[place].discards,
+        None => false,
+    }
+}
