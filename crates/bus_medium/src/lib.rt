@@ -7,9 +7,11 @@ mod lookup;
 mod mail;
 mod medium;
 mod member;
+mod offers;
 mod request;
 mod running;
 mod setup;
+mod starting;
 
 pub use medium::Medium;
 pub use setup::BusSetup;

@@ -65,7 +65,10 @@ pub(crate) fn discards_at(members: &[Member], node: u32) -> bool
     ensures { result ≡ member_is (λ m. m.discards) members.now node }
 {
     match place_of(members, node) {
-        Some(place) => members[place].discards,
+        Some(place) => {
+            let member = &members[place];
+            member.discards
+        }
         None => false,
     }
 }
