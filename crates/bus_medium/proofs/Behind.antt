@@ -1,7 +1,8 @@
 -- A start: who wins, and what the bus is behind it.
-use Rattle.std.proofs.Common.{◌≡◌, ◌≤◌, ◌<◌, ◌+◌, ◌^◌, ℕ, List, [], ◌∷◌, Bool, true, false, not, Option, Some, None, All, map, filter, ap, sym, ◌∙◌, arith, refl}
+use Rattle.std.proofs.Common.{◌≡◌, ◌≤◌, ◌<◌, ◌+◌, ◌^◌, ℕ, List, [], ◌∷◌, ◌++◌, take, drop, length, true, false, not, Option, Some, None, All, map, filter, ap, sym, ◌∙◌, arith, refl}
 use Rattle.std.specs.Prelude.{is_some, IfSome, option_map}
 use Rattle.std.proofs.lemmas.Bool.{false≢true}
+use Rattle.std.proofs.lemmas.List.{take_all, drop_all, append-nil}
 use Rattle.run_specs.specs.Order.{foremost}
 use Rattle.bus_specs.specs.Bus.{Bus, Member, Request, Running, offers, winner, bits}
 use Rattle.bus_specs.specs.Due.{next_due, at}
@@ -10,10 +11,11 @@ use Rattle.bus_specs.specs.Start.{spans, course, running_frame, discarded, membe
 use Rattle.bus_specs.specs.Sound.{Sound, SoundMember, most_seen}
 use Rattle.bus_sound.proofs.Consequences.{start-wins}
 use Rattle.bus_sound.proofs.Started.{start-sound}
-use Rattle.bus_sound.proofs.Among.{Among}
 use Rattle.bus_sound.proofs.Lists.{All-each, each-All}
-use Rattle.log_specs.specs.Line.{Line}
-use Rattle.bus_medium.specs.Losers.{gone_of, gone_id, is_among_gone, member_from}
+use Rattle.log_specs.specs.Line as log
+use Rattle.log_specs.specs.Line.{Line, On}
+use Rattle.bus_medium.specs.Offers.{request_at, somes}
+use Rattle.bus_medium.specs.Losers.{gone_of, gone_from, loser_lines, is_among_gone, member_from}
 use Rattle.bus_medium.specs.Setups.{IsKept}
 use Rattle.bus_medium.specs.declared.starting.Gone.{Gone}
 use Rattle.bus_medium.proofs.Offering.{before}
@@ -89,3 +91,48 @@ start-kept b now k d = record { sound = start-sound b now now k.sound d; idle = 
     go : (o : Option Request) → (start_with b now o).0.idle ≤ 2 ^ 63 + 2 ^ 42
     go None = k.idle
     go (Some w) = k.idle
+
+-- what is chosen at a place wins
+pub chosen-wins : (b : Bus) (now : ℕ) (rs : List Request) (os os' : List (Option ℕ)) (o : Option Request) → rs ≡ b.requests → os' ≡ os
+    → somes (map (request_at b.requests) os) ≡ offers b now → o ≡ foremost before (somes (map (request_at rs) os')) → o ≡ winner b now
+chosen-wins b now rs os os' o all two offered best =
+    best ∙ ap (λ l. foremost before (somes (map (request_at l) os'))) all ∙ ap (λ l. foremost before (somes (map (request_at b.requests) l))) two
+    ∙ ap (foremost before) offered ∙ winner-by b now
+
+pub same-winner : (b : Bus) (now : ℕ) (v w : Request) → Some v ≡ winner b now → winner b now ≡ Some w → v ≡ w
+same-winner b now v w d e = let s : Some v ≡ Some w = d ∙ e in cc
+
+pub lines-of : (b : Bus) (now : ℕ) (v w : Request) (os os' : List (Option ℕ)) (ls : List Line) → v ≡ w → os' ≡ os
+    → somes (map (request_at b.requests) os) ≡ offers b now
+    → ls ≡ On now b.setup.number v.node (log.Start v.frame) ∷ loser_lines b now v.node (somes (map (request_at b.requests) os'))
+    → ls ≡ start_lines b now w
+lines-of b now v w os os' ls same two offered e =
+    e ∙ ap (λ l. On now b.setup.number v.node (log.Start v.frame) ∷ loser_lines b now v.node (somes (map (request_at b.requests) l))) two
+    ∙ ap (λ l. On now b.setup.number v.node (log.Start v.frame) ∷ loser_lines b now v.node l) offered
+    ∙ ap (λ x. start_lines b now x) same
+
+pub gone-of : (b : Bus) (now : ℕ) (v w : Request) (os os' : List (Option ℕ)) (gone : List Gone) → v ≡ w → os' ≡ os
+    → somes (map (request_at b.requests) os) ≡ offers b now → gone ≡ gone_from b v.node (somes (map (request_at b.requests) os'))
+    → gone ≡ map gone_of (discarded b now w.node)
+gone-of b now v w os os' gone same two offered e =
+    e ∙ ap (λ l. gone_from b v.node (somes (map (request_at b.requests) l))) two
+    ∙ ap (gone_from b v.node) offered
+    ∙ ap (λ (x : Request). map gone_of (discarded b now x.node)) same
+
+-- what a slice of all elements leaves
+pub whole-slice : (old new : List Member) (n : ℕ) → n ≡ length old → length new ≡ length old → take n (new ++ drop (length new) old) ≡ new
+whole-slice old new n e k =
+    ap (λ l. take n (new ++ l)) (drop_all (length new) old (omega (arith, k)))
+    ∙ ap (take n) (append-nil new)
+    ∙ take_all n new (omega (arith, e, k))
+
+-- the bus behind a start, with its parts as they are found
+pub start-found : (b : Bus) (now : ℕ) (w : Request) (gone : List Gone) (r : Running) (ms : List Member) (qs : List Request) (n t : ℕ)
+    → winner b now ≡ Some w → gone ≡ map gone_of (discarded b now w.node) → r ≡ running_frame w (course b now w)
+    → n ≡ spans b now → t ≡ bits b 1 → ms ≡ map (member_from n (now + t) gone) b.members → qs ≡ filter (λ q. not (is_among_gone gone q)) b.requests
+    → record b { members = ms; requests = qs; attempts = b.attempts + 1; running = Some r } ≡ (start b now).0
+start-found b now w gone r ms qs n t e g run ns ts members requests =
+    ap (λ x. record b { members = x; requests = qs; attempts = b.attempts + 1; running = Some r })
+    (members ∙ ap (λ x. map (member_from x (now + t) gone) b.members) ns ∙ ap (λ x. map (member_from (spans b now) (now + x) gone) b.members) ts)
+    ∙ ap (λ x. record (behind b now gone r) { requests = x }) requests
+    ∙ start-state b now w gone r e g run

@@ -1,10 +1,9 @@
 -- What is taken down of those that lose is what the definitions say.
-use Rattle.std.proofs.Common.{◌≡◌, ◌<◌, ◌+◌, ℕ, List, [], ◌∷◌, ◌++◌, Bool, true, false, cond, not, Option, Some, None, map, drop, length, get_or, filter, filter_map, find, ◌&&◌, ap, sym, ◌∙◌, refl, append_assoc}
-use Rattle.std.specs.Prelude.{◌==◌, option_to_list, option_map}
-use Rattle.std.specs.List.{list_any}
+use Rattle.std.proofs.Common.{◌≡◌, ◌<◌, ◌+◌, ℕ, List, [], ◌∷◌, ◌++◌, Bool, true, false, Option, Some, None, map, drop, length, get_or, filter, ap, sym, ◌∙◌, refl, append_assoc}
+use Rattle.std.specs.Prelude.{◌==◌, option_to_list}
 use Rattle.std.proofs.lemmas.List.{drop_more}
 use Rattle.std.proofs.lemmas.List.Elements.{filter-append}
-use Rattle.bus_specs.specs.Bus.{Bus, Request}
+use Rattle.bus_specs.specs.Bus.{Request}
 use Rattle.bus_specs.specs.Start.{lost_id, is_gone}
 use Rattle.bus_medium.specs.Offers.{somes}
 use Rattle.bus_medium.specs.Losers.{gone_of, gone_id, is_among_gone}

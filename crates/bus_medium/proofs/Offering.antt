@@ -1,16 +1,16 @@
 -- Offers by the places of requests, one more request at a time; and what they are together.
-use Rattle.std.proofs.Common.{◌≡◌, ◌<◌, ◌≤◌, ◌+◌, ℕ, zero, suc, List, [], ◌∷◌, ◌++◌, Bool, true, false, cond, not, Option, Some, None, All, map, set, slice_get, take, drop, length, get_or, filter, filter_map, fold, ◌&&◌, ap, sym, ◌∙◌, arith, refl, inl, inr}
+use Rattle.std.proofs.Common.{◌≡◌, ◌<◌, ◌≤◌, ◌+◌, ℕ, zero, suc, List, [], ◌∷◌, ◌++◌, Bool, true, false, cond, Option, Some, None, map, set, slice_get, take, length, get_or, filter, filter_map, fold, ◌&&◌, ap, sym, ◌∙◌, arith, refl, inl, inr}
 use Rattle.std.specs.Prelude.{◌==◌, if◌then◌else◌, is_some, option_to_list, nat_le}
-use Rattle.std.specs.List.{cons_option, list_any}
+use Rattle.std.specs.List.{cons_option}
 use Rattle.std.proofs.lemmas.Bool.{or_parts}
-use Rattle.std.proofs.lemmas.List.{map-set, take_more, drop_more, length-map, get_or-map}
+use Rattle.std.proofs.lemmas.List.{map-set, take_more, length-map, get_or-map}
 use Rattle.std.proofs.Math.ListN.{get_or-map as get_or-mapped}
 use Rattle.std.proofs.lemmas.List.Elements.{filter-append}
 use Rattle.std.proofs.lemmas.List.Sums.{fold-append}
 use Rattle.std.proofs.lemmas.Option.{slice_get_cases, slice_get_within, get_or_from_slice_get}
 use Rattle.frame_specs.specs.Dominance.{beats}
-use Rattle.run_specs.specs.Order.{better_of, foremost}
-use Rattle.bus_specs.specs.Bus.{Bus, Member, Request, offer, offers, has_request, takes_part, ready_moment, member_is, winner}
+use Rattle.run_specs.specs.Order.{better_of}
+use Rattle.bus_specs.specs.Bus.{Bus, Member, Request, offer, offers, has_request, takes_part, ready_moment, member_is}
 use Rattle.bus_specs.specs.Sound.{Rise}
 use Rattle.bus_sound.proofs.Members.{nodes_of}
 use Rattle.bus_medium.specs.Offers.{request_at, offer_by, offers_of, somes, may_start}

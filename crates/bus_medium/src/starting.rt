@@ -99,12 +99,7 @@ impl Medium {
     }
 
     /// The frame of a request on the wire, from this moment on.
-    fn running_of(
-        &self,
-        alloc: Global,
-        now: u64,
-        request: &Request,
-    ) -> Result<Running, AllocError>
+    fn running_of(&self, alloc: Global, now: u64, request: &Request) -> Result<Running, AllocError>
         requires moment { now ≤ 2 ^ 62 }
         requires attempts { self.now.attempts < 2 ^ 63 }
         ensures { IfOk result (λ r. r ≡ running_frame request.now (course self.now now request.now)) }

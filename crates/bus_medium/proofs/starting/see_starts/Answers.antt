@@ -1,4 +1,4 @@
-use Rattle.std.proofs.Common.{rules, arith, ◌≡◌, ◌<◌, ◌+◌, ◌^◌, length}
+use Rattle.std.proofs.Common.{rules, arith, ◌≡◌, ◌<◌, ◌+◌, ◌^◌, length, map}
 use Rattle.std.specs.Prelude.{IfSome}
 use Rattle.bus_specs.specs.Bus.{Member}
 use Rattle.bus_medium.specs.Losers.{member_from}
@@ -14,7 +14,7 @@ loop-member-preserved c =
     let done : after ≡ f m = search rules in
     record {
       changed = walked-changed f c.loop-member.members c.loop-member.member-index m after inside
-          c.args.members.now c.member-item.is done c.loop-member.invariant.changed;
+          (map f c.args.members.now) c.member-item.is done c.loop-member.invariant.changed;
       room = walked-room f c.loop-member.members c.loop-member.member-index m after inside
           (λ (x : Member). IfSome x.occurrences (λ n. n + c.args.spans < 2 ^ 63)) c.loop-member.invariant.room;
     }

@@ -1,7 +1,7 @@
-use Rattle.std.proofs.Common.{◌≡◌, ◌<◌, ℕ, Bool, List, slice_get, length, Some, None, get_or, true, false, sym, ◌∙◌, ap, refl, take, subst}
+use Rattle.std.proofs.Common.{◌≡◌, ◌<◌, slice_get, length, Some, None, get_or, true, false, sym, ◌∙◌, ap, refl, take, subst}
 use Rattle.std.proofs.lemmas.List.{get_or_default}
 use Rattle.std.proofs.lemmas.Option.{slice_get_read}
-use Rattle.bus_specs.specs.Bus.{Bus, Request, Member, member_is}
+use Rattle.bus_specs.specs.Bus.{Bus, Request, member_is}
 use Rattle.bus_specs.specs.Sound.{Rise}
 use Rattle.bus_sound.proofs.Members.{nodes_of}
 use Rattle.bus_medium.specs.Places.{holds}
