@@ -1,3 +1,5 @@
+pub mod Losers
 pub mod Mails
+pub mod Offers
 pub mod Places
 pub mod Setups

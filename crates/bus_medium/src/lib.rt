@@ -2,13 +2,16 @@
 //! access control and fault confinement).
 #![tactic(auto)]
 
+mod course;
 mod lookup;
 mod mail;
 mod medium;
 mod member;
+mod offers;
 mod request;
 mod running;
 mod setup;
+mod starting;
 
 pub use medium::Medium;
 pub use setup::BusSetup;
