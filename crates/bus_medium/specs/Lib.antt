@@ -1,3 +1,4 @@
 pub mod Mails
 pub mod Places
 pub mod Setups
+pub mod Submissions

@@ -6,9 +6,12 @@ mod lookup;
 mod mail;
 mod medium;
 mod member;
+mod member_changes;
 mod request;
 mod running;
 mod setup;
+mod submission;
+mod submitting;
 
 pub use medium::Medium;
 pub use setup::BusSetup;
