@@ -1,2 +1,4 @@
 pub mod Looking
 pub mod Placing
+pub mod Opening
+pub mod Keeping
