@@ -1,0 +1,55 @@
+-- What a node asks, takes, and its entering and leaving keep: a sound bus whose idle moment leaves room.
+use Rattle.std.proofs.Common.{◌≡◌, ℕ, true, refl, ap, subst, sym}
+use Rattle.frame_specs.specs.Frame.{Frame}
+use Rattle.bus_specs.specs.Bus.{Bus, member_is}
+use Rattle.bus_specs.specs.Submit.{Submission, Transmit, Keep, Discard, Wakeup, Sleep, Rate, FdRate, Declare, FormatError, Unfit, Fate, Accepted, Full, Dropped, fate, with_request, bus_after_submission, submit}
+use Rattle.bus_specs.specs.Inbox.{take_inbox, enter, leave}
+use Rattle.bus_specs.specs.Sound.{Sound, IsSubmission}
+use Rattle.bus_sound.proofs.Submitted.{submit-sound}
+use Rattle.bus_sound.proofs.Quiet.{enter-sound, take_inbox-sound}
+use Rattle.bus_sound.proofs.Left.{leave-sound}
+use Rattle.bus_medium.specs.Setups.{IsKept}
+
+request-idle : (b : Bus) (node : ℕ) (f : Frame) (x : Fate) → (with_request b node f x).idle ≡ b.idle
+request-idle b node f Accepted = refl
+request-idle b node f Full = refl
+request-idle b node f Dropped = refl
+
+submission-idle : (b : Bus) (now node : ℕ) (what : Submission) → (bus_after_submission b now node what).idle ≡ b.idle
+submission-idle b now node (Transmit f) = request-idle b node f (fate b node)
+submission-idle b now node Keep = refl
+submission-idle b now node Discard = refl
+submission-idle b now node Wakeup = refl
+submission-idle b now node Sleep = refl
+submission-idle b now node (Rate v) = refl
+submission-idle b now node (FdRate v) = refl
+submission-idle b now node (Declare l) = refl
+submission-idle b now node (FormatError bytes) = refl
+submission-idle b now node (Unfit bytes) = refl
+
+submission-sound : (b : Bus) (now node : ℕ) (what : Submission) → Sound b → IsSubmission b.setup what
+    → member_is (λ m. m.live) b.members node ≡ true → Sound (bus_after_submission b now node what)
+unfolding submit
+submission-sound b now node what h fits live = submit-sound b now node what h fits live
+
+pub submission-kept : (b : Bus) (now node : ℕ) (what : Submission) → IsKept b → IsSubmission b.setup what
+    → member_is (λ m. m.live) b.members node ≡ true → IsKept (bus_after_submission b now node what)
+submission-kept b now node what h fits live = record {
+  sound = submission-sound b now node what h.sound fits live;
+  idle = rw (submission-idle b now node what) h.idle;
+}
+
+-- a bus that equals what a submission leaves
+pub submission-leaves : (b c : Bus) (now node : ℕ) (what : Submission) → c ≡ bus_after_submission b now node what → IsKept b → IsSubmission b.setup what
+    → member_is (λ m. m.live) b.members node ≡ true → IsKept c
+submission-leaves b c now node what e h fits live = subst IsKept (sym e) (submission-kept b now node what h fits live)
+
+pub enter-kept : (b : Bus) (node : ℕ) → IsKept b → IsKept (enter b node)
+enter-kept b node h = record { sound = enter-sound b node h.sound; idle = h.idle }
+
+pub leave-kept : (b : Bus) (node : ℕ) → IsKept b → IsKept (leave b node)
+leave-kept b node h = record { sound = leave-sound b node h.sound; idle = h.idle }
+
+pub take_inbox-kept : (b : Bus) (now node : ℕ) → IsKept b → IsKept (take_inbox b now node).0
+unfolding take_inbox
+take_inbox-kept b now node h = record { sound = take_inbox-sound b now node h.sound; idle = h.idle }
