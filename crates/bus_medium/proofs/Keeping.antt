@@ -1,7 +1,8 @@
 -- What a node asks, takes, and its entering and leaving keep: a sound bus whose idle moment leaves room.
-use Rattle.std.proofs.Common.{◌≡◌, ℕ, true, refl, ap, subst, sym}
+use Rattle.std.proofs.Common.{◌≡◌, ℕ, Bool, true, false, ◌++◌, List, map, take, drop, length, refl, ap, ◌∙◌, subst, sym}
+use Rattle.std.proofs.lemmas.List.{take_at, length-map}
 use Rattle.frame_specs.specs.Frame.{Frame}
-use Rattle.bus_specs.specs.Bus.{Bus, member_is}
+use Rattle.bus_specs.specs.Bus.{Bus, Member, member_is}
 use Rattle.bus_specs.specs.Submit.{Submission, Transmit, Keep, Discard, Wakeup, Sleep, Rate, FdRate, Declare, FormatError, Unfit, Fate, Accepted, Full, Dropped, fate, with_request, bus_after_submission, submit}
 use Rattle.bus_specs.specs.Inbox.{take_inbox, enter, leave}
 use Rattle.bus_specs.specs.Sound.{Sound, IsSubmission}
@@ -9,6 +10,7 @@ use Rattle.bus_sound.proofs.Submitted.{submit-sound}
 use Rattle.bus_sound.proofs.Quiet.{enter-sound, take_inbox-sound}
 use Rattle.bus_sound.proofs.Left.{leave-sound}
 use Rattle.bus_medium.specs.Setups.{IsKept}
+use Rattle.bus_medium.specs.Places.{changed}
 
 request-idle : (b : Bus) (node : ℕ) (f : Frame) (x : Fate) → (with_request b node f x).idle ≡ b.idle
 request-idle b node f Accepted = refl
@@ -43,6 +45,24 @@ submission-kept b now node what h fits live = record {
 pub submission-leaves : (b c : Bus) (now node : ℕ) (what : Submission) → c ≡ bus_after_submission b now node what → IsKept b → IsSubmission b.setup what
     → member_is (λ m. m.live) b.members node ≡ true → IsKept c
 submission-leaves b c now node what e h fits live = subst IsKept (sym e) (submission-kept b now node what h fits live)
+
+pub discard-leaves : (b c : Bus) (now node : ℕ) (d : Bool) → c ≡ record b { members = map (changed node (λ m. record m { discards = d })) b.members } → IsKept b
+    → member_is (λ m. m.live) b.members node ≡ true → IsKept c
+discard-leaves b c now node true e h live = submission-leaves b c now node Discard e h tt live
+discard-leaves b c now node false e h live = submission-leaves b c now node Keep e h tt live
+
+-- members changed, and all else as it was
+pub members-leave : (b inside : Bus) (ms : List Member) (f : Member → Member) → inside ≡ b → ms ≡ map f inside.members
+    → record inside { members = ms } ≡ record b { members = map f b.members }
+members-leave b inside ms f view e =
+    ap (λ xs. record inside { members = xs }) e ∙ ap (λ (v : Bus). record v { members = map f v.members }) view
+
+-- a vector behind a change of all that a slice of it shows
+pub all-changed : {X : Type 0} (f : X → X) (xs seen ys : List X) (n : ℕ) → n ≡ length xs → seen ≡ xs → ys ≡ map f seen
+    → take n (ys ++ drop (length ys) xs) ≡ map f xs
+all-changed f xs seen ys n size same e =
+    let long : length ys ≡ n = ap length e ∙ length-map seen f ∙ ap length same ∙ sym size in
+    take_at ys (drop (length ys) xs) n long ∙ e ∙ ap (map f) same
 
 pub enter-kept : (b : Bus) (node : ℕ) → IsKept b → IsKept (enter b node)
 enter-kept b node h = record { sound = enter-sound b node h.sound; idle = h.idle }

@@ -2,13 +2,16 @@
 ghost use Rattle.std.specs.Prelude.{◌≡◌, true, IfOk};
 ghost use Rattle.operation_specs.specs.Operation.{is_valid, IsOperation};
 ghost use Rattle.operation_specs.specs.Reading.{IsWhole};
-ghost use Rattle.bus_specs.specs.Submit.{submission_of, submission_of_operation, submission_of_parameter, unfit_operation, first_64, is_own};
+ghost use Rattle.log_specs.specs.Line.{On};
+ghost use Rattle.bus_specs.specs.Bus.{Bus as medium};
+ghost use Rattle.bus_specs.specs.Submit.{told_of, submission_of, submission_of_operation, submission_of_parameter, unfit_operation, first_64, is_own};
 ghost use Rattle.bus_log.specs.Lines as lines;
+ghost use Rattle.bus_log.specs.Lines.{line_of};
 ghost use Rattle.bus_ops.specs.Views.{item_of, operation_of, parameter_of, declared_of};
-ghost use Rattle.bus_medium.specs.Submissions.{asked_of};
+ghost use Rattle.bus_medium.specs.Submissions.{asked_of, noted_of};
 
 use crate::Medium;
-use bus_log::Level;
+use bus_log::{Level, Line};
 use bus_ops::{Declared, Item, Op, Parameter, write_op};
 use can_frame::{Bytes, Frame};
 use std::alloc::{AllocError, Global};
@@ -25,8 +28,19 @@ pub(crate) enum Submission {
     Keep,
     /// Frames that lose arbitration are removed.
     Discard,
+    /// The bus is woken up.
     Wakeup,
+    /// The node goes to sleep.
     Sleep,
+    /// What changes nothing on the bus.
+    Noted(Noted),
+    /// What the bus doesn't take: its first 64 bytes.
+    Unfit(Bytes),
+}
+
+/// What is only told.
+#[derive(Drop)]
+pub(crate) enum Noted {
     /// The bus's own nominal bit rate, in bits a second.
     Rate(u32),
     /// A data bit rate, in bits a second.
@@ -35,8 +49,40 @@ pub(crate) enum Submission {
     Declare(Level),
     /// The node couldn't read these bytes, at most 64.
     FormatError(Bytes),
-    /// What the bus doesn't take: its first 64 bytes.
-    Unfit(Bytes),
+}
+
+impl Noted {
+    /// Its line.
+    pub(crate) fn line(self, moment: u64, bus: u32, node: u32) -> Line
+        ensures { (b : medium) → line_of result ≡ On moment bus node (told_of b node (noted_of self)) }
+    {
+        match self {
+            Noted::Rate(value) => Line::Rate {
+                moment,
+                bus,
+                node,
+                value,
+            },
+            Noted::FdRate(value) => Line::FdRate {
+                moment,
+                bus,
+                node,
+                value,
+            },
+            Noted::Declare(level) => Line::Status {
+                moment,
+                bus,
+                node,
+                level,
+            },
+            Noted::FormatError(bytes) => Line::FormatError {
+                moment,
+                bus,
+                node,
+                bytes,
+            },
+        }
+    }
 }
 
 /// The first 64 bytes.
@@ -86,11 +132,11 @@ impl Medium {
         ensures { IfOk result (λ s. asked_of s ≡ submission_of_operation self.now.setup (operation_of op)) }
     {
         match op {
-            Op::FormatError(bytes) => Ok(Submission::FormatError(cut(bytes))),
+            Op::FormatError(bytes) => Ok(Submission::Noted(Noted::FormatError(cut(bytes)))),
             Op::Transmit(frame) => Ok(Submission::Transmit(frame)),
             Op::FdTransmit(frame) if self.fd_rate.is_some() => Ok(Submission::Transmit(frame)),
             Op::Configuration(parameter) => self.submission_of_parameter(alloc, parameter),
-            Op::Status(declared) => Ok(Submission::Declare(level(declared))),
+            Op::Status(declared) => Ok(Submission::Noted(Noted::Declare(level(declared)))),
             Op::Wakeup => Ok(Submission::Wakeup),
             Op::Sleep => Ok(Submission::Sleep),
             other => unfit(alloc, &other),
@@ -115,8 +161,12 @@ impl Medium {
         ensures { IfOk result (λ s. asked_of s ≡ submission_of_parameter self.now.setup (parameter_of parameter)) }
     {
         match parameter {
-            Parameter::Rate(value) if self.rate == value => Ok(Submission::Rate(value)),
-            Parameter::FdRate(value) if self.is_own(value) => Ok(Submission::FdRate(value)),
+            Parameter::Rate(value) if self.rate == value => Ok(Submission::Noted(Noted::Rate(
+                value,
+            ))),
+            Parameter::FdRate(value) if self.is_own(value) => Ok(Submission::Noted(Noted::FdRate(
+                value,
+            ))),
             Parameter::Keep => Ok(Submission::Keep),
             Parameter::Discard => Ok(Submission::Discard),
             other => unfit(alloc, &Op::Configuration(other)),
