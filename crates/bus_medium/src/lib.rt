@@ -7,6 +7,7 @@ mod mail;
 mod medium;
 mod member;
 mod member_changes;
+mod member_inbox;
 mod request;
 mod running;
 mod setup;
