@@ -2,6 +2,7 @@
 //! access control and fault confinement).
 #![tactic(auto)]
 
+mod inboxes;
 mod lookup;
 mod mail;
 mod medium;

@@ -1,7 +1,7 @@
 //! Changes of one member. They do nothing where the node isn't among the members.
 ghost use Rattle.std.specs.Prelude.{◌≡◌, map, true, false, None};
 ghost use Rattle.bus_specs.specs.Submit.{format_notice, member_after_wakeup};
-ghost use Rattle.bus_specs.specs.Inbox.{member_after_leaving};
+ghost use Rattle.bus_specs.specs.Inbox.{member_after_inbox, member_after_leaving};
 ghost use Rattle.bus_medium.specs.Places.{Rising, changed};
 
 use crate::lookup::place_of;
@@ -115,5 +115,15 @@ pub(crate) fn leave(members: &mut [Member], node: u32)
 {
     if let Some(place) = place_of(members, node) {
         members[place].leave();
+    }
+}
+
+/// The node takes its mail and what is due.
+pub(crate) fn take_inbox(members: &mut [Member], node: u32, now: u64)
+    requires rising { Rising members.old }
+    ensures { members.new ≡ map (changed node (member_after_inbox now)) members.old }
+{
+    if let Some(place) = place_of(members, node) {
+        members[place].take_inbox(now);
     }
 }

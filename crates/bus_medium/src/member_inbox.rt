@@ -149,4 +149,115 @@ impl Member {
         self.write_format(alloc, out, now)?;
         self.write_wake(alloc, out, now)
     }
+
+    fn push_lost(&self, lines: &mut Vec<Line>, now: u64, bus: u32) -> Result<(), AllocError>
+        ensures { OnOk result (map line_of lines.new.items ≡ map line_of lines.old.items ++ map (On now bus self.now.node) (lost_told now self.now)) }
+    {
+        match self.lost {
+            Some(LostNotice { due, id }) if due <= now => {
+                lines.push(Line::ToldLost {
+                    moment: now,
+                    bus,
+                    node: self.node,
+                    id,
+                })?;
+                Ok(())
+            }
+            _ => Ok(()),
+        }
+    }
+
+    fn push_format(
+        &self,
+        alloc: Global,
+        lines: &mut Vec<Line>,
+        now: u64,
+        bus: u32,
+    ) -> Result<(), AllocError>
+        ensures { OnOk result (map line_of lines.new.items ≡ map line_of lines.old.items ++ map (On now bus self.now.node) (format_told now self.now)) }
+    {
+        match &self.format {
+            Some(notice) if notice.due <= now => {
+                let copy = Bytes::of(notice.bytes.as_slice().to_vec(alloc)?);
+                lines.push(Line::ToldFormat {
+                    moment: now,
+                    bus,
+                    node: self.node,
+                    bytes: copy,
+                })?;
+                Ok(())
+            }
+            _ => Ok(()),
+        }
+    }
+
+    fn push_wake(&self, lines: &mut Vec<Line>, now: u64, bus: u32) -> Result<(), AllocError>
+        ensures { OnOk result (map line_of lines.new.items ≡ map line_of lines.old.items ++ map (On now bus self.now.node) (wake_told now self.now)) }
+    {
+        match self.wake {
+            Some(due) if due <= now => {
+                lines.push(Line::ToldWake {
+                    moment: now,
+                    bus,
+                    node: self.node,
+                })?;
+                Ok(())
+            }
+            _ => Ok(()),
+        }
+    }
+
+    /// Appends a line for each notice that is due.
+    pub(crate) fn push_told(
+        &self,
+        alloc: Global,
+        lines: &mut Vec<Line>,
+        now: u64,
+        bus: u32,
+    ) -> Result<(), AllocError>
+        ensures { OnOk result (map line_of lines.new.items ≡ map line_of lines.old.items ++ map (On now bus self.now.node) (told_notices now self.now)) }
+    {
+        self.push_lost(lines, now, bus)?;
+        self.push_format(alloc, lines, now, bus)?;
+        self.push_wake(lines, now, bus)
+    }
+
+    /// Its mail and what is due are gone. A wake notice makes it awake.
+    pub(crate) fn take_inbox(&mut self, now: u64)
+        ensures { self.new ≡ member_after_inbox now self.old }
+    {
+        self.awake = self.awake || self.has_wake(now);
+        self.lost = later_lost(self.lost, now);
+        self.format = later_format(self.format.take(), now);
+        self.wake = later_wake(self.wake, now);
+        self.mail = None;
+    }
+}
+
+/// What isn't due yet.
+fn later_lost(notice: Option<LostNotice>, now: u64) -> Option<LostNotice>
+    ensures { result ≡ later_part (λ n. n.due) now notice }
+{
+    match notice {
+        Some(LostNotice { due, .. }) if due <= now => None,
+        other => other,
+    }
+}
+
+/// What isn't due yet.
+fn later_format(notice: Option<FormatNotice>, now: u64) -> Option<FormatNotice>
+    ensures { result ≡ later_part (λ n. n.due) now notice }
+{
+    let notice = notice?;
+    if notice.due <= now { None } else { Some(notice) }
+}
+
+/// What isn't due yet.
+fn later_wake(notice: Option<u64>, now: u64) -> Option<u64>
+    ensures { result ≡ later_part (λ due. due) now notice }
+{
+    match notice {
+        Some(due) if due <= now => None,
+        other => other,
+    }
 }
