@@ -2,3 +2,4 @@ pub mod Looking
 pub mod Placing
 pub mod Opening
 pub mod Keeping
+pub mod Taking
