@@ -1,10 +1,10 @@
 -- What a node asks, takes, and its entering and leaving keep: a sound bus whose idle moment leaves room.
-use Rattle.std.proofs.Common.{◌≡◌, ℕ, Bool, true, false, ◌++◌, List, map, take, drop, length, refl, ap, ◌∙◌, subst, sym}
+use Rattle.std.proofs.Common.{◌≡◌, ℕ, Bool, true, false, ◌++◌, List, map, filter, take, drop, length, refl, ap, ◌∙◌, subst, sym}
 use Rattle.std.proofs.lemmas.List.{take_at, length-map}
 use Rattle.frame_specs.specs.Frame.{Frame}
-use Rattle.bus_specs.specs.Bus.{Bus, Member, member_is}
+use Rattle.bus_specs.specs.Bus.{Bus, Member, Request, member_is, with_member}
 use Rattle.bus_specs.specs.Submit.{Submission, Transmit, Keep, Discard, Wakeup, Sleep, Rate, FdRate, Declare, FormatError, Unfit, Fate, Accepted, Full, Dropped, fate, with_request, bus_after_submission, submit}
-use Rattle.bus_specs.specs.Inbox.{take_inbox, enter, leave}
+use Rattle.bus_specs.specs.Inbox.{take_inbox, member_after_inbox, enter, leave}
 use Rattle.bus_specs.specs.Sound.{Sound, IsSubmission}
 use Rattle.bus_sound.proofs.Submitted.{submit-sound}
 use Rattle.bus_sound.proofs.Quiet.{enter-sound, take_inbox-sound}
@@ -70,6 +70,14 @@ enter-kept b node h = record { sound = enter-sound b node h.sound; idle = h.idle
 pub leave-kept : (b : Bus) (node : ℕ) → IsKept b → IsKept (leave b node)
 leave-kept b node h = record { sound = leave-sound b node h.sound; idle = h.idle }
 
-pub take_inbox-kept : (b : Bus) (now node : ℕ) → IsKept b → IsKept (take_inbox b now node).0
+pub take_inbox-leaves : (b : Bus) (now node : ℕ) → IsKept b → IsKept (with_member b node (member_after_inbox now))
 unfolding take_inbox
-take_inbox-kept b now node h = record { sound = take_inbox-sound b now node h.sound; idle = h.idle }
+take_inbox-leaves b now node h = record { sound = take_inbox-sound b now node h.sound; idle = h.idle }
+
+-- members changed and requests left out, and all else as it was
+pub rest-leaves : (b inside : Bus) (ms : List Member) (rs : List Request) (f : Member → Member) (p : Request → Bool) → inside ≡ b
+    → ms ≡ map f inside.members → rs ≡ filter p inside.requests
+    → record inside { members = ms; requests = rs } ≡ record b { members = map f b.members; requests = filter p b.requests }
+rest-leaves b inside ms rs f p view e k =
+    ap (λ xs. record inside { members = xs; requests = rs }) e ∙ ap (λ ys. record inside { members = map f inside.members; requests = ys }) k
+    ∙ ap (λ (v : Bus). record v { members = map f v.members; requests = filter p v.requests }) view

@@ -11,7 +11,7 @@ use Rattle.bus_specs.specs.Bus.{Bus, Setup, Member, Mail, Received, Confirm, Bus
 use Rattle.bus_specs.specs.Inbox.{has_inbox, has_notice, inbox, items_of, members_at, take_inbox, told_notices, operation_of_mail, transmit_as}
 use Rattle.bus_specs.specs.Sound.{SoundMember, IsMail, IsEcho, IsKind}
 use Rattle.bus_sound.proofs.Lists.{each-All, All-each}
-use Rattle.bus_medium.specs.Places.{Rising}
+use Rattle.bus_medium.specs.Places.{Rising, holds, is_at}
 use Rattle.bus_medium.specs.Telling.{IsTellable}
 use Rattle.bus_medium.proofs.Placing.{found-members, missing-members, any-members}
 
@@ -57,3 +57,10 @@ told-found b seen xs now node p number m sight same rising l is n bus =
 
 pub any-found : (b : Bus) (now node : ℕ) → has_inbox b now node ≡ member_is (λ m. is_some m.mail || has_notice now m) b.members node
 any-found b now node = any-members (λ m. is_some m.mail || has_notice now m) b.members node
+
+-- a test of the member that is read is the test of the node
+pub any-at : (b : Bus) (seen xs : List Member) (test : Member → Bool) (node p : ℕ) (m : Member) → seen ≡ xs → xs ≡ b.members → p < length seen
+    → m ≡ get_or xs p m → member_is test seen node ≡ is_at test seen (Some p) → test m ≡ member_is test b.members node
+any-at b seen xs test node p m sight same l is e =
+    let at : slice_get xs p ≡ Some m = slice_get_read xs (length xs) p m refl (subst (λ ms. p < length ms) sight l) is in
+    sym (ap (λ ms. member_is test ms node) (sym (sight ∙ same)) ∙ e ∙ ap (holds test) (ap (λ ms. slice_get ms p) sight ∙ at))
