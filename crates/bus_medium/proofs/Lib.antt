@@ -4,3 +4,6 @@ pub mod Offering
 pub mod Losing
 pub mod Walked
 pub mod Behind
+pub mod Placing
+pub mod Keeping
+pub mod Taking

@@ -3,6 +3,7 @@
 #![tactic(auto)]
 
 mod course;
+mod inboxes;
 mod lookup;
 mod mail;
 mod medium;
@@ -12,6 +13,10 @@ mod request;
 mod running;
 mod setup;
 mod starting;
+mod member_changes;
+mod member_inbox;
+mod submission;
+mod submitting;
 
 pub use medium::Medium;
 pub use setup::BusSetup;

@@ -1,0 +1,12 @@
+use Rattle.std.proofs.Common.{rules}
+use Rattle.bus_specs.specs.Bus.{Member}
+use Rattle.bus_medium.proofs.Placing.{written, unwritten}
+use Rattle.bus_medium.proofs.member_changes.set_discards.Goals as goal
+
+pub returns-in-Some : goal.returns-in-Some
+returns-in-Some c =
+    written (λ m. record m { discards = c.args.discards }) c.args.members.now c.args.node c.in-Some.place c.index-members-place.result c.set_discards.new.self
+    c.requires.rising c.in-Some.ensures.place c.index-members-place.is c.in-Some.ensures.node (search rules)
+
+pub returns-in_default : goal.returns-in_default
+returns-in_default c = unwritten (λ m. record m { discards = c.args.discards }) c.args.members.now c.args.node c.in_default.ensures.test

@@ -1,0 +1,12 @@
+use Rattle.std.proofs.Common.{rules}
+use Rattle.bus_specs.specs.Inbox.{member_after_inbox}
+use Rattle.bus_medium.proofs.Placing.{written, unwritten}
+use Rattle.bus_medium.proofs.member_changes.take_inbox.Goals as goal
+
+pub returns-in-Some : goal.returns-in-Some
+returns-in-Some c =
+    written (member_after_inbox c.args.now) c.args.members.now c.args.node c.in-Some.place c.index-members-place.result c.take_inbox.new.self
+    c.requires.rising c.in-Some.ensures.place c.index-members-place.is c.in-Some.ensures.node (search rules)
+
+pub returns-in_default : goal.returns-in_default
+returns-in_default c = unwritten (member_after_inbox c.args.now) c.args.members.now c.args.node c.in_default.ensures.test
