@@ -1,1 +1,3 @@
 pub mod Looking
+pub mod FirstDue
+pub mod Folding

@@ -1,3 +1,5 @@
 pub mod Mails
 pub mod Places
 pub mod Setups
+pub mod Dues
+pub mod FirstDues

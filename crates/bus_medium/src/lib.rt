@@ -2,6 +2,7 @@
 //! access control and fault confinement).
 #![tactic(auto)]
 
+mod due;
 mod lookup;
 mod mail;
 mod medium;
@@ -10,5 +11,6 @@ mod request;
 mod running;
 mod setup;
 
+pub use due::{Due, What};
 pub use medium::Medium;
 pub use setup::BusSetup;
