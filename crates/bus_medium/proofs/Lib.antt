@@ -1,3 +1,4 @@
-pub mod Looking
 pub mod FirstDue
 pub mod Folding
+pub mod Looking
+pub mod Opening

@@ -1,5 +1,5 @@
 -- What a bus is made from, and what every bus of the code keeps. Public clauses cite this file.
-use Rattle.std.specs.Prelude.{◌≡◌, ◌≤◌, ◌+◌, ◌^◌, ℕ, List, is_some}
+use Rattle.std.specs.Prelude.{◌≡◌, ◌≤◌, ◌+◌, ◌^◌, ℕ, is_some}
 use Rattle.bus_specs.specs.Bus.{Setup, Bus}
 use Rattle.bus_specs.specs.Sound.{Sound, IsSetup, Rise}
 use Rattle.bus_medium.specs.declared.setup.BusSetup.{BusSetup}

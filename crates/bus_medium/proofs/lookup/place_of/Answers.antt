@@ -1,18 +1,13 @@
-use Rattle.std.proofs.Common.{rules, arith, sym, refl, ◌∙◌, ◌≡◌, ◌<◌, true, Some, slice_get}
-use Rattle.std.proofs.lemmas.Bool.{eqb-true}
-use Rattle.std.proofs.lemmas.Option.{slice_get_read}
-use Rattle.bus_medium.proofs.Looking.{found-test, missing-test}
+use Rattle.std.proofs.Common.{sym, ◌∙◌}
+use Rattle.bus_medium.proofs.Looking.{there-test, first-test, first-node}
 use Rattle.bus_medium.proofs.lookup.place_of.Goals as goal
 
-pub returns-then-is_node-clause-test : goal.returns-then-is_node-clause-test
-returns-then-is_node-clause-test c test =
-    found-test test c.args.members.now c.args.node c.set-guess.guess c.index-members-guess.result c.requires.rising
-        (search rules) (search rules)
+pub returns-then-is_there-clause-test : goal.returns-then-is_there-clause-test
+returns-then-is_there-clause-test c =
+    there-test c.args.members.now c.args.node c.args.node c.requires.rising (sym c.is_there.ensures ∙ c.if-is_there.true)
 
-pub returns-then-is_node-2-clause-test : goal.returns-then-is_node-2-clause-test
-returns-then-is_node-2-clause-test c test =
-    found-test test c.args.members.now c.args.node c.loop-place.place c.index-members-place.result c.requires.rising
-        (search rules) (search rules)
+pub returns-clause-node : goal.returns-clause-node
+returns-clause-node c = first-node c.args.members.now c.args.node c.first_place.result c.first_place.ensures
 
 pub returns-clause-test : goal.returns-clause-test
-returns-clause-test c test = missing-test test c.args.members.now c.args.node (search rules)
+returns-clause-test c = first-test c.args.members.now c.args.node c.requires.rising c.first_place.result c.first_place.ensures
