@@ -1,19 +1,19 @@
 -- The first start, found without a look at each member: all starts are of one kind, so the one at the least moment is the foremost.
 use Rattle.std.proofs.Common.{◌≡◌, ℕ, ◌≤◌, ◌<◌, ◌+◌, ◌*◌, ◌^◌, ◌==◌, ◌⊎◌, Bool, true, false, not, if◌then◌else◌, max, List, [], ◌∷◌, ◌++◌, fold, filter, Option, Some, None, arith, refl, sym, ap, ◌∙◌, subst, inl, inr, eq-eqb}
-use Rattle.std.specs.Prelude.{◌&&◌, ◌||◌, nat_lt, map, option_map, option_to_list}
+use Rattle.std.specs.Prelude.{◌&&◌, ◌||◌, nat_lt, map, flat_map, filter_map, option_map, option_to_list}
 use Rattle.std.specs.List.{list_any}
 use Rattle.std.proofs.Math.Nat.{mul-le-mul}
 use Rattle.std.proofs.lemmas.Bool.{both_ways, false_from_ne_true, and_parts, and_from, not-true, not_from_false, eqb-true, or_left, ltb-false, true_from_ne_false}
 use Rattle.std.proofs.lemmas.List.Sums.{fold-append}
 use Rattle.run_specs.specs.Order.{better_of}
 use Rattle.bus_specs.specs.Bus.{Bus, Member, Request, Running, bits, passive, is, takes_part, member_is, has_request, wants, suspended, ready_moment}
-use Rattle.bus_specs.specs.Due.{Due, Finish, Start, at, rank, precedes, returns, notices, starts, dues, next_due}
+use Rattle.bus_specs.specs.Due.{Due, Finish, Notices, Start, at, notice_moments, precedes, returns, notices, starts, dues, next_due}
 use Rattle.bus_sound.proofs.Among.{Among, among-filter, filter-among}
 use Rattle.bus_sound.proofs.Lists.{among-map, map-among, any_from, any_to, none_at, none_from}
 use Rattle.bus_sound.proofs.Members.{is_from, is_to}
 use Rattle.bus_sound.proofs.Orders.{IsOrder}
 use Rattle.bus_sound.proofs.Dues.{precedes-order, not-before}
-use Rattle.bus_medium.specs.FirstDues.{suspended_by, starts_at_once, starts_later, last_waits, first_ready}
+use Rattle.bus_medium.specs.FirstDues.{return_of, suspended_by, starts_at_once, starts_later, last_waits, first_ready}
 
 pub some_ticks : (n ticks : ℕ) → n ≤ 128 → ticks ≤ 11 * 10 ^ 12 → n * ticks ≤ 2 ^ 51
 some_ticks n ticks few span = let most : n * ticks ≤ 128 * (11 * 10 ^ 12) = mul-le-mul few span in omega (arith, most)
@@ -194,13 +194,20 @@ module _ (b : Bus) (now : ℕ) where
       go false true e f = later-start best e f
       go false false e f = no-start best e f
 
-  pub due-running : (r : Running) → b.running ≡ Some r → next_due b now ≡ first (Some (at Finish r.end)) (notices b)
+  -- what is due while a frame runs, from its parts
+  pub due-running : (r : Running) (ms : List Member) (end : ℕ) → b.running ≡ Some r → end ≡ r.end → ms ≡ b.members
+      → next_due b now ≡ first (Some (at Finish end)) (map (at Notices) (flat_map notice_moments ms))
   unfolding next_due
-  due-running r e = rw e refl
+  due-running r ms end e t m = rw (e, t, m) refl
 
-  pub due-free : b.running ≡ None → next_due b now
-      ≡ first (first (first None (returns b)) (notices b)) (option_to_list (option_map (λ ready. at Start (max now ready)) (first_ready b)))
+  -- and while none runs
+  pub due-free : (back noticed start : Option Due) → b.running ≡ None
+      → back ≡ first None (filter_map (return_of b.idle b.setup.nominal) b.members)
+      → noticed ≡ first back (map (at Notices) (flat_map notice_moments b.members))
+      → start ≡ option_map (λ ready. at Start (max now ready)) (first_ready b)
+      → next_due b now ≡ first noticed (option_to_list start)
   unfolding next_due
-  due-free e = rw e (fold-append (better_of precedes) None (returns b ++ notices b) (starts b now)
-      ∙ ap (λ x. first x (starts b now)) (fold-append (better_of precedes) None (returns b) (notices b))
-      ∙ starts-first (first (first None (returns b)) (notices b)))
+  due-free back noticed start e r n t = rw e (fold-append (better_of precedes) None (returns b ++ notices b) (starts b now)
+      ∙ ap (λ x. first x (starts b now)) (fold-append (better_of precedes) None (returns b) (notices b)
+          ∙ ap (λ x. first x (notices b)) (sym r) ∙ sym n)
+      ∙ starts-first noticed ∙ ap (λ x. first noticed (option_to_list x)) (sym t))
