@@ -3,3 +3,5 @@ pub mod Places
 pub mod Setups
 pub mod Dues
 pub mod FirstDues
+pub mod Finishing
+pub mod Parts

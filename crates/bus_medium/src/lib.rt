@@ -7,6 +7,7 @@ mod lookup;
 mod mail;
 mod medium;
 mod member;
+mod part;
 mod request;
 mod running;
 mod setup;
