@@ -1,3 +1,5 @@
+pub mod FirstDue
+pub mod Folding
 pub mod Looking
 pub mod Opening
 pub mod Offering

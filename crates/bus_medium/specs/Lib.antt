@@ -5,3 +5,7 @@ pub mod Places
 pub mod Setups
 pub mod Submissions
 pub mod Telling
+pub mod Dues
+pub mod FirstDues
+pub mod Finishing
+pub mod Parts

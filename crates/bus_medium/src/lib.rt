@@ -4,11 +4,13 @@
 
 mod course;
 mod inboxes;
+mod due;
 mod lookup;
 mod mail;
 mod medium;
 mod member;
 mod offers;
+mod part;
 mod request;
 mod running;
 mod setup;
@@ -18,5 +20,6 @@ mod member_inbox;
 mod submission;
 mod submitting;
 
+pub use due::{Due, What};
 pub use medium::Medium;
 pub use setup::BusSetup;
