@@ -1,6 +1,6 @@
 -- A start: who wins, and what the bus is behind it.
-use Rattle.std.proofs.Common.{◌≡◌, ◌≤◌, ◌<◌, ◌+◌, ◌^◌, ℕ, List, [], ◌∷◌, ◌++◌, take, drop, length, true, false, not, Option, Some, None, All, map, filter, ap, sym, ◌∙◌, arith, refl}
-use Rattle.std.specs.Prelude.{is_some, IfSome, option_map}
+use Rattle.std.proofs.Common.{◌≡◌, ◌≤◌, ◌+◌, ◌^◌, ℕ, List, [], ◌∷◌, ◌++◌, take, drop, length, true, false, not, Option, Some, None, map, filter, ap, sym, ◌∙◌, arith, refl}
+use Rattle.std.specs.Prelude.{is_some, option_map}
 use Rattle.std.proofs.lemmas.Bool.{false≢true}
 use Rattle.std.proofs.lemmas.List.{take_all, drop_all, append-nil}
 use Rattle.run_specs.specs.Order.{foremost}
@@ -8,10 +8,8 @@ use Rattle.bus_specs.specs.Bus.{Bus, Member, Request, Running, offers, winner, b
 use Rattle.bus_specs.specs.Due.{next_due, at}
 use Rattle.bus_specs.specs.Due as due
 use Rattle.bus_specs.specs.Start.{spans, course, running_frame, discarded, member_after_start, is_gone, lost_by, bus_after_start, start_lines, start_with, start}
-use Rattle.bus_specs.specs.Sound.{Sound, SoundMember, most_seen}
 use Rattle.bus_sound.proofs.Consequences.{start-wins}
 use Rattle.bus_sound.proofs.Started.{start-sound}
-use Rattle.bus_sound.proofs.Lists.{All-each, each-All}
 use Rattle.log_specs.specs.Line as log
 use Rattle.log_specs.specs.Line.{Line, On}
 use Rattle.bus_medium.specs.Offers.{request_at, somes}
@@ -34,18 +32,6 @@ won b now d = go (winner b now) refl (start-wins b now now d)
 
 pub not-lost : (b : Bus) (now : ℕ) → next_due b now ≡ Some (at due.Start now) → winner b now ≡ None → ⊥
 not-lost b now d e = let h : true ≡ false = sym (start-wins b now now d) ∙ ap is_some e in false≢true (sym h)
-
--- there is room for the spans
-pub room-for : (b : Bus) (n : ℕ) → Sound b → n ≤ 2 ^ 62 → All (λ m. IfSome m.occurrences (λ seen. seen + n < 2 ^ 63)) b.members
-room-for b n h l = All-each (λ (m : Member). IfSome m.occurrences (λ seen. seen + n < 2 ^ 63)) b.members (λ m a. here m.occurrences (each-All (SoundMember b.setup b.running) b.members m h.members a).seen)
-  where
-    most : (o : Option Running) → most_seen o ≤ 128
-    most None = omega arith
-    most (Some r) = omega arith
-
-    here : (o : Option ℕ) → IfSome o (λ seen. seen ≤ most_seen b.running) → IfSome o (λ seen. seen + n < 2 ^ 63)
-    here None k = tt
-    here (Some seen) k = omega (arith, l, most b.running, k)
 
 module _ (b : Bus) (now : ℕ) (rs : List Request) where
   member-is : (m : Member) → member_from (spans b now) (now + bits b 1) (map gone_of rs) m ≡ member_after_start b now rs m

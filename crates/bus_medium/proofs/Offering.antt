@@ -1,5 +1,5 @@
 -- Offers by the places of requests, one more request at a time; and what they are together.
-use Rattle.std.proofs.Common.{◌≡◌, ◌<◌, ◌≤◌, ◌+◌, ℕ, zero, suc, List, [], ◌∷◌, ◌++◌, Bool, true, false, cond, Option, Some, None, map, set, slice_get, take, length, get_or, filter, filter_map, fold, ◌&&◌, ap, sym, ◌∙◌, arith, refl, inl, inr}
+use Rattle.std.proofs.Common.{◌≡◌, ◌<◌, ◌≤◌, ◌+◌, ℕ, zero, suc, List, [], ◌∷◌, ◌++◌, Bool, true, false, cond, Option, Some, None, map, set, slice_get, take, length, get_or, filter, filter_map, fold, ◌&&◌, ap, sym, ◌∙◌, arith, refl}
 use Rattle.std.specs.Prelude.{◌==◌, if◌then◌else◌, is_some, option_to_list, nat_le}
 use Rattle.std.specs.List.{cons_option}
 use Rattle.std.proofs.lemmas.Bool.{or_parts}
@@ -7,7 +7,7 @@ use Rattle.std.proofs.lemmas.List.{map-set, take_more, length-map, get_or-map}
 use Rattle.std.proofs.Math.ListN.{get_or-map as get_or-mapped}
 use Rattle.std.proofs.lemmas.List.Elements.{filter-append}
 use Rattle.std.proofs.lemmas.List.Sums.{fold-append}
-use Rattle.std.proofs.lemmas.Option.{slice_get_cases, slice_get_within, get_or_from_slice_get}
+use Rattle.std.proofs.lemmas.Option.{slice_get_within, get_or_from_slice_get}
 use Rattle.frame_specs.specs.Dominance.{beats}
 use Rattle.run_specs.specs.Order.{better_of}
 use Rattle.bus_specs.specs.Bus.{Bus, Member, Request, offer, offers, has_request, takes_part, ready_moment, member_is}
@@ -152,15 +152,6 @@ module _ (may : Member → Bool) where
       let here : None ≡ offer_by may [] m = offers-none m (may m) refl in
       let rest : map (request_at all) (map (λ m. None) ms) ≡ offers_of may [] ms = no-offers all ms in
       ap (λ os. None ∷ os) rest ∙ ap (λ o. o ∷ offers_of may [] ms) here
-
--- the request at a place that is there is the only one that is looked at
-pub chosen-one : (rs : List Request) (best : Option ℕ) (place chosen : ℕ) → place < length rs
-    → ((r : Request) → slice_get rs place ≡ Some r → slice_get rs chosen ≡ choose (request_at rs best) r)
-    → slice_get rs chosen ≡ fold choose (request_at rs best) (option_to_list (slice_get rs place))
-chosen-one rs best place chosen there value = elim (slice_get_cases rs place).1 [
-  | inl found ↦ rw (found.2) (value found.0 found.2)
-  | inr past ↦ absurd (omega (arith, there, past.0))
-]
 
 onto : (o best : Option Request) (os : List (Option Request))
     → fold choose (fold choose best (option_to_list o)) (somes os) ≡ fold choose best (somes (o ∷ os))
