@@ -4,7 +4,6 @@ use Rattle.std.specs.Prelude.{◌&&◌, ◌||◌}
 use Rattle.std.specs.List.{list_any}
 use Rattle.bus_specs.specs.Bus.{Member, member_is}
 use Rattle.bus_specs.specs.Sound.{Rise}
-use Rattle.bus_sound.proofs.Among.{Among}
 use Rattle.std.proofs.lemmas.Option.{slice_get_read}
 use Rattle.bus_medium.specs.Places.{Rising, changed}
 

@@ -1,18 +1,12 @@
 -- What a node takes, read off the one member at its place.
-use Rattle.std.proofs.Common.{◌≡◌, ℕ, ◌<◌, ◌≤◌, ◌==◌, Bool, true, false, List, [], ◌∷◌, ◌++◌, Option, Some, None, IfSome, All, map, filter, flat_map, slice_get, get_or, length, append-nil, arith, sym, refl, ap, ◌∙◌, subst}
-use Rattle.std.specs.Prelude.{is_some, ◌||◌, ◌&&◌, nat_le}
+use Rattle.std.proofs.Common.{◌≡◌, ℕ, ◌<◌, ◌==◌, Bool, true, false, List, [], ◌∷◌, Some, map, filter, flat_map, slice_get, get_or, length, append-nil, sym, refl, ap, ◌∙◌, subst}
+use Rattle.std.specs.Prelude.{is_some, ◌||◌}
 use Rattle.std.proofs.lemmas.Option.{slice_get_read}
-use Rattle.std.proofs.lemmas.Bool.{and_from}
-use Rattle.frame_specs.specs.Frame.{Frame, Kind, Data, Remote, Fd, is_fd}
-use Rattle.operation_specs.specs.Operation.{Operation, is_valid}
 use Rattle.operation_specs.specs.Spelling.{spell}
 use Rattle.log_specs.specs.Line.{Line, On}
-use Rattle.bus_specs.specs.Bus.{Bus, Setup, Member, Mail, Received, Confirm, BusError, FormatNotice, Running, member_is}
-use Rattle.bus_specs.specs.Inbox.{has_inbox, has_notice, inbox, items_of, members_at, take_inbox, told_notices, operation_of_mail, transmit_as}
-use Rattle.bus_specs.specs.Sound.{SoundMember, IsMail, IsEcho, IsKind}
-use Rattle.bus_sound.proofs.Lists.{each-All, All-each}
+use Rattle.bus_specs.specs.Bus.{Bus, Member, member_is}
+use Rattle.bus_specs.specs.Inbox.{has_inbox, has_notice, inbox, items_of, members_at, take_inbox, told_notices}
 use Rattle.bus_medium.specs.Places.{Rising, holds, is_at}
-use Rattle.bus_medium.specs.Telling.{IsTellable}
 use Rattle.bus_medium.proofs.Placing.{found-members, missing-members, any-members}
 
 pub inbox-missing : (b : Bus) (seen : List Member) (now node : ℕ) → seen ≡ b.members → member_is (λ m. true) seen node ≡ false

@@ -1,5 +1,5 @@
 -- What a node can be told. No public clause cites this file.
-use Rattle.std.specs.Prelude.{◌≡◌, ◌≤◌, ℕ, true, List, length, IfSome, Option, option_map, option_to_list}
+use Rattle.std.specs.Prelude.{◌≡◌, ◌≤◌, ℕ, true, List, length, IfSome, option_map, option_to_list}
 use Rattle.operation_specs.specs.Operation.{Operation, ArbitrationLost, FormatError, Wakeup, is_valid}
 use Rattle.bus_specs.specs.Bus.{Member}
 use Rattle.bus_specs.specs.Inbox.{operation_of_mail, due_lost, due_format, due_wake}

@@ -1,5 +1,4 @@
 use Rattle.std.proofs.Common.{rules}
-use Rattle.bus_specs.specs.Bus.{Member}
 use Rattle.bus_specs.specs.Submit.{format_notice}
 use Rattle.bus_medium.proofs.Placing.{written, unwritten}
 use Rattle.bus_medium.proofs.member_changes.tell_format.Goals as goal

@@ -1,4 +1,4 @@
-use Rattle.std.proofs.Common.{rules, arith, subst, false, ◌+◌}
+use Rattle.std.proofs.Common.{rules, arith, subst, ◌+◌}
 use Rattle.bus_specs.specs.Bus.{bits, Member}
 use Rattle.bus_specs.specs.Submit.{Unfit, format_notice}
 use Rattle.bus_medium.specs.Places.{changed}

@@ -1,6 +1,5 @@
-use Rattle.std.proofs.Common.{◌≡◌, rules, arith, subst, sym, true}
-use Rattle.bus_specs.specs.Bus.{Bus, Member}
-use Rattle.bus_specs.specs.Inbox.{enter}
+use Rattle.std.proofs.Common.{rules, arith, subst, sym, true}
+use Rattle.bus_specs.specs.Bus.{Member}
 use Rattle.bus_medium.specs.Places.{changed}
 use Rattle.bus_medium.specs.Setups.{IsKept}
 use Rattle.bus_medium.proofs.Keeping.{enter-kept, members-leave, all-changed}

@@ -1,4 +1,4 @@
-use Rattle.std.proofs.Common.{◌≡◌, ◌∙◌, ap, sym, rules, true, ◌++◌, flat_map}
+use Rattle.std.proofs.Common.{◌∙◌, ap, sym, true, ◌++◌, flat_map}
 use Rattle.operation_specs.specs.Spelling.{spell}
 use Rattle.bus_specs.specs.Inbox.{items_of}
 use Rattle.bus_medium.proofs.Taking.{inbox-found, inbox-missing}

@@ -1,7 +1,7 @@
-use Rattle.std.proofs.Common.{◌≡◌, rules, arith, subst, sym, not}
+use Rattle.std.proofs.Common.{rules, arith, subst, sym, not}
 use Rattle.std.specs.Prelude.{◌==◌}
-use Rattle.bus_specs.specs.Bus.{Bus, Member}
-use Rattle.bus_specs.specs.Inbox.{leave, member_after_leaving}
+use Rattle.bus_specs.specs.Bus.{Member}
+use Rattle.bus_specs.specs.Inbox.{member_after_leaving}
 use Rattle.bus_medium.specs.Places.{changed}
 use Rattle.bus_medium.specs.Setups.{IsKept}
 use Rattle.bus_medium.proofs.Keeping.{leave-kept, rest-leaves, all-changed}

@@ -1,5 +1,5 @@
-use Rattle.std.proofs.Common.{rules, arith, subst, false, ◌+◌}
-use Rattle.bus_specs.specs.Bus.{bits, Member}
+use Rattle.std.proofs.Common.{rules, arith, subst, false}
+use Rattle.bus_specs.specs.Bus.{Member}
 use Rattle.bus_specs.specs.Submit.{Sleep}
 use Rattle.bus_medium.specs.Places.{changed}
 use Rattle.bus_medium.specs.Setups.{IsKept}

@@ -1,6 +1,6 @@
-use Rattle.std.proofs.Common.{◌≡◌, rules, arith, subst, sym, true}
-use Rattle.bus_specs.specs.Bus.{Bus, Member}
-use Rattle.bus_specs.specs.Inbox.{take_inbox, member_after_inbox}
+use Rattle.std.proofs.Common.{rules, arith, subst, sym}
+use Rattle.bus_specs.specs.Bus.{Member}
+use Rattle.bus_specs.specs.Inbox.{member_after_inbox}
 use Rattle.bus_medium.specs.Places.{changed}
 use Rattle.bus_medium.specs.Setups.{IsKept}
 use Rattle.bus_medium.proofs.Keeping.{take_inbox-leaves, members-leave, all-changed}

@@ -1,4 +1,4 @@
-use Rattle.std.proofs.Common.{◌≡◌, ◌∙◌, ap, sym, rules, true, ◌++◌, map}
+use Rattle.std.proofs.Common.{◌∙◌, ap, sym, true, ◌++◌, map}
 use Rattle.log_specs.specs.Line.{On}
 use Rattle.bus_log.specs.Lines.{line_of}
 use Rattle.bus_specs.specs.Inbox.{told_notices}

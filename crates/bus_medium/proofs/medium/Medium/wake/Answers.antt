@@ -1,7 +1,6 @@
-use Rattle.std.proofs.Common.{rules, arith, subst, false, ◌+◌}
+use Rattle.std.proofs.Common.{rules, arith, subst, ◌+◌}
 use Rattle.bus_specs.specs.Bus.{bits, Member}
 use Rattle.bus_specs.specs.Submit.{Wakeup, member_after_wakeup}
-use Rattle.bus_medium.specs.Places.{changed}
 use Rattle.bus_medium.specs.Setups.{IsKept}
 use Rattle.bus_medium.proofs.Keeping.{submission-leaves, members-leave, all-changed}
 use Rattle.bus_medium.proofs.medium.Medium.wake.Goals as goal
