@@ -23,15 +23,15 @@ pub winner-by : (b : Bus) (now : ℕ) → foremost before (offers b now) ≡ win
 unfolding winner
 winner-by b now = refl
 
-pub won : (b : Bus) (now : ℕ) → next_due b now ≡ Some (at due.Start now) → (w : Request) × (winner b now ≡ Some w)
-won b now d = go (winner b now) refl (start-wins b now now d)
+pub won : (b : Bus) (now : ℕ) → (d : (since : ℕ) × (next_due b since ≡ Some (at due.Start now))) → (w : Request) × (winner b now ≡ Some w)
+won b now d = go (winner b now) refl (start-wins b d.0 now d.1)
   where
     go : (o : Option Request) → winner b now ≡ o → is_some o ≡ true → (w : Request) × (winner b now ≡ Some w)
     go None e h = absurd (false≢true h)
     go (Some w) e h = (w, e)
 
-pub not-lost : (b : Bus) (now : ℕ) → next_due b now ≡ Some (at due.Start now) → winner b now ≡ None → ⊥
-not-lost b now d e = let h : true ≡ false = sym (start-wins b now now d) ∙ ap is_some e in false≢true (sym h)
+pub not-lost : (b : Bus) (now : ℕ) → (d : (since : ℕ) × (next_due b since ≡ Some (at due.Start now))) → winner b now ≡ None → ⊥
+not-lost b now d e = let h : true ≡ false = sym (start-wins b d.0 now d.1) ∙ ap is_some e in false≢true (sym h)
 
 module _ (b : Bus) (now : ℕ) (rs : List Request) where
   member-is : (m : Member) → member_from (spans b now) (now + bits b 1) (map gone_of rs) m ≡ member_after_start b now rs m
@@ -70,9 +70,9 @@ pub start-log : (b : Bus) (now : ℕ) (w : Request) → winner b now ≡ Some w 
 unfolding start
 start-log b now w e = ap (λ o. (start_with b now o).1) (sym e)
 
-pub start-kept : (b : Bus) (now : ℕ) → IsKept b → next_due b now ≡ Some (at due.Start now) → IsKept (start b now).0
+pub start-kept : (b : Bus) (now : ℕ) → IsKept b → (d : (since : ℕ) × (next_due b since ≡ Some (at due.Start now))) → IsKept (start b now).0
 unfolding start
-start-kept b now k d = record { sound = start-sound b now now k.sound d; idle = go (winner b now) }
+start-kept b now k d = record { sound = start-sound b d.0 now k.sound d.1; idle = go (winner b now) }
   where
     go : (o : Option Request) → (start_with b now o).0.idle ≤ 2 ^ 63 + 2 ^ 42
     go None = k.idle

@@ -103,3 +103,16 @@ impl Medium {
         drop_requests(&mut self.requests, node);
     }
 }
+
+impl Medium {
+    /// The nodes for which a notice is due at this moment, in ticks, in their order.
+    pub fn nodes_with_notice(&self, alloc: Global, now: u64) -> Result<Vec<u32>, AllocError>
+        ensures { IfOk result (λ v. v.items ≡ map (λ m. m.node) (filter (model.has_notice now) self.now.members)) }
+    {
+        self.members
+            .iter()
+            .filter(|member| member.has_notice(now))
+            .map(|member| member.node)
+            .collect(alloc)
+    }
+}

@@ -1,5 +1,5 @@
 //! The start of a frame: one wins, and the others lose (ISO 11898-1, bitwise arbitration).
-ghost use Rattle.std.specs.Prelude.{◌≡◌, ◌≤◌, ◌<◌, ◌+◌, ◌^◌, ◌++◌, ◌∷◌, [], Some, IfOk, IfSome, OnOk, OnErr, All, filter, map, not, option_to_list};
+ghost use Rattle.std.specs.Prelude.{◌≡◌, ℕ, ◌≤◌, ◌<◌, ◌+◌, ◌^◌, ◌++◌, ◌∷◌, [], Some, IfOk, IfSome, OnOk, OnErr, All, filter, map, not, option_to_list};
 ghost use Rattle.bus_specs.specs.Bus.{Request as request, winner};
 ghost use Rattle.bus_specs.specs.Due.{next_due as next_due_of, at, Start};
 ghost use Rattle.bus_specs.specs.Start.{spans, discards, running_frame, course, discarded, start_lines, start as start_of};
@@ -260,7 +260,7 @@ impl Medium {
 
     /// What the start that is due brings.
     fn plan(&self, alloc: Global, now: u64) -> Result<Plan, AllocError>
-        requires due { next_due_of self.now now ≡ Some (at Start now) }
+        requires due { (since : ℕ) × (next_due_of self.now since ≡ Some (at Start now)) }
         requires moment { now ≤ 2 ^ 62 }
         requires attempts { self.now.attempts < 2 ^ 63 }
         ensures running { IfOk result (λ p. (w : request) → winner self.now now ≡ Some w → p.running ≡ running_frame w (course self.now now w)) }
@@ -282,7 +282,7 @@ impl Medium {
     /// wire, and the other offers lose. A node that discards is told of it a nominal bit later. The
     /// bus is unchanged after want of memory.
     pub fn start(&mut self, alloc: Global, now: u64) -> Result<LineList, AllocError>
-        requires due { next_due_of self.old now ≡ Some (at Start now) }
+        requires due { (since : ℕ) × (next_due_of self.old since ≡ Some (at Start now)) }
         requires moment { now ≤ 2 ^ 62 }
         requires attempts { self.old.attempts < 2 ^ 63 }
         ensures state { OnOk result (self.new ≡ (start_of self.old now).0) }
