@@ -1,8 +1,8 @@
 //! The command `play`.
-ghost use Rattle.std.specs.Prelude.{◌≡◌, ◌≢◌, ◌<◌, ◌^◌, ◌⊎◌, ℕ, List, Some, Err, map, length};
-ghost use Rattle.bus_specs.specs.Line.{line_text};
-ghost use Rattle.bus_specs.specs.History.{Play as play_record, play_lines, play_log};
-ghost use Rattle.play_specs.specs.PlayText.{play_of};
+ghost use Rattle.std.specs.Prelude.{◌≡◌, ◌≢◌, ◌<◌, ◌^◌, ◌⊎◌, ℕ, List, Result, Some, Err, map, length};
+ghost use Rattle.log_specs.specs.Line.{line_text};
+ghost use Rattle.play_specs.specs.Play.{Play as play_record, play_lines, play_log};
+ghost use Rattle.play_specs.specs.PlayReading.{IsReadAs};
 ghost use Rattle.bench_outside.specs.Shelf.{Contents};
 ghost use Rattle.bench_outside.specs.Causes.{Rose};
 ghost use Rattle.bench_outside.specs.Pieces.{joined, WritesAll, BreaksOff, StopsBefore};
@@ -70,27 +70,27 @@ pub(crate) fn play_bytes<O: Sink>(alloc: Global, budget: u64, bytes: &[u8], out:
     requires bounded { length bytes.now < 2 ^ 32 }
     requires budget { budget < 2 ^ 62 }
 
-    // Which answer comes.
-    ensures answer { IsFault result ⊎ (result ≡ status_of budget (placed (play_of bytes.now))) }
+    // Which answer comes, whatever the bytes are read as.
+    ensures answer { (a : Result play_record ℕ) → IsReadAs bytes.now a
+        → IsFault result ⊎ (result ≡ status_of budget (placed a)) }
     ensures form { result ≢ Status.Usage }
     ensures read { (file : FileId) → result ≢ Status.Unread file }
 
     // What is written, and which fault is answered.
-    ensures whole { IsFault result
-        ⊎ WritesAll O.Sink out.old out.new (lines_of budget (placed (play_of bytes.now))) }
-    ensures broken { result ≡ Status.Unwritten
-        → BreaksOff O.Sink out.old out.new (lines_of budget (placed (play_of bytes.now))) }
-    ensures stopped { result ≡ Status.Memory
-        → StopsBefore O.Sink out.old out.new (lines_of budget (placed (play_of bytes.now))) }
+    ensures whole { (a : Result play_record ℕ) → IsReadAs bytes.now a
+        → IsFault result ⊎ WritesAll O.Sink out.old out.new (lines_of budget (placed a)) }
+    ensures broken { (a : Result play_record ℕ) → IsReadAs bytes.now a → result ≡ Status.Unwritten
+        → BreaksOff O.Sink out.old out.new (lines_of budget (placed a)) }
+    ensures stopped { (a : Result play_record ℕ) → IsReadAs bytes.now a → result ≡ Status.Memory
+        → StopsBefore O.Sink out.old out.new (lines_of budget (placed a)) }
     ensures untouched { WritesNothing result → out.new ≡ out.old }
-    ensures spared { (r : Refusal) → placed (play_of bytes.now) ≡ Err r → out.new ≡ out.old }
+    ensures spared { (line : ℕ) → IsReadAs bytes.now (Err line) → out.new ≡ out.old }
     ensures unwritten { result ≡ Status.Unwritten → Rose (O.faults out.old) (O.faults out.new) }
     ensures kept { (result ≡ Status.Unwritten) ⊎ (O.faults out.new ≡ O.faults out.old) }
 {
     let play = match read_play(alloc, bytes) {
         Ok(play) => play,
         Err(PlayError::Line { number }) => return refused(Why::Line, number),
-        Err(PlayError::Later { number }) => return refused(Why::Later, number),
         Err(PlayError::Memory) => return Status::Memory,
     };
     match run(alloc, budget, play, out) {

@@ -10,8 +10,6 @@ pub enum FileId {
 /// The rule that a file breaks.
 #[derive(Clone, Copy, Debug, PartialEq, Eq)]
 pub enum Why {
-    /// A line whose form is right and isn't built yet; the place is its number, from 1.
-    Later,
     /// A line that breaks the form of its file; the place is its number, from 1.
     Line,
     /// A file over its greatest length; the place is that limit in bytes.

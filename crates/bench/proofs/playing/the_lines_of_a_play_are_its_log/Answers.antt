@@ -1,6 +1,6 @@
 use Rattle.std.proofs.lemmas.List.Folds.{flat_map-map}
-use Rattle.bus_specs.specs.Line.{line_text}
-use Rattle.bus_specs.specs.History.{play_lines}
+use Rattle.log_specs.specs.Line.{line_text}
+use Rattle.play_specs.specs.Play.{play_lines}
 use Rattle.bench.proofs.playing.the_lines_of_a_play_are_its_log.Goals as goal
 
 pub returns : goal.returns
