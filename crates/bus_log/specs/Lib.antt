@@ -6,3 +6,5 @@ pub mod Cuts
 pub mod Verbs
 pub mod Reading
 pub mod Groups
+pub mod Spelling
+pub mod LineValues

@@ -1,7 +1,8 @@
 //! Reading a line.
-ghost use Rattle.std.specs.Prelude.{◌≡◌, ◌∷◌, [], IfOk, option_map, map};
+ghost use Rattle.std.specs.Prelude.{◌≡◌, ◌∷◌, [], IfOk, IfSome, Some, option_map, map};
 ghost use Rattle.log_specs.specs.Line as log;
 ghost use Rattle.bus_log.specs.Lines.{line_of};
+ghost use Rattle.bus_log.specs.Spelling.{Spells};
 ghost use Rattle.bus_log.specs.Reading.{one, bare, line_of_text, line_in, end_in, node_line_in, unit_line_in as unit_of, bus_line_in, cause_named as cause_of_word};
 
 use crate::Line;
@@ -11,9 +12,20 @@ use crate::told::{Place, told_line};
 use crate::verb::{cause_named, is_word, verb_named};
 use std::alloc::{AllocError, Global};
 
-/// The line that these bytes are the text of, with its line feed; None where they are the text of none.
-#[tactic(auto, unfolding(crate::specs::Reading::line_of_text))]
+/// The line that these bytes are the text of, with its line feed; None exactly where they are the text of none.
 pub fn read_line(alloc: Global, bytes: &[u8]) -> Result<Option<Line>, AllocError>
+    // The bytes are the text of what is read.
+    ensures found { IfOk result (λ o. IfSome o (λ line. Spells bytes.now (line_of line))) }
+
+    // Each line with this text is read, unless memory runs out.
+    ensures only { (line : log.Line) → Spells bytes.now line → IfOk result (λ o. option_map line_of o ≡ Some line) }
+{
+    line_in_text(alloc, bytes)
+}
+
+/// The line that a text spells, word by word.
+#[tactic(auto, unfolding(crate::specs::Reading::line_of_text))]
+fn line_in_text(alloc: Global, bytes: &[u8]) -> Result<Option<Line>, AllocError>
     ensures { IfOk result (λ o. option_map line_of o ≡ line_of_text bytes.now) }
 {
     let Some((line, [])) = find(b'\n', bytes) else {

@@ -107,7 +107,7 @@ cut_step false s c cs (Some q) p here later found =
     let parts : (c ∷ q.0, q.1) ≡ p = same_Some (c ∷ q.0, q.1) p found in
     rw (← parts) (ap (λ xs. c ∷ xs) (later q refl))
 
-cut-spelled : (s : ℕ) (text : List ℕ) (p : List ℕ × List ℕ) → cut s text ≡ Some p → text ≡ p.0 ++ s ∷ p.1
+pub cut-spelled : (s : ℕ) (text : List ℕ) (p : List ℕ × List ℕ) → cut s text ≡ Some p → text ≡ p.0 ++ s ∷ p.1
 cut-spelled s [] p found = cc found
 cut-spelled s (c ∷ cs) p found =
     cut_step (c == s) s c cs (cut s cs) p (eqb-true c s) (cut-spelled s cs) found
@@ -119,7 +119,7 @@ bytes_of_pair : (c d high low : ℕ) (cs bytes : List ℕ)
     → bytes_of (c ∷ d ∷ cs) ≡ Some ((16 * high + low) ∷ bytes)
 bytes_of_pair c d high low cs bytes first second rest = rw (first, second, rest) refl
 
-bytes_of-hex_bytes : (bytes : List ℕ) → All (λ b. b < 256) bytes → bytes_of (hex_bytes bytes) ≡ Some bytes
+pub bytes_of-hex_bytes : (bytes : List ℕ) → All (λ b. b < 256) bytes → bytes_of (hex_bytes bytes) ≡ Some bytes
 bytes_of-hex_bytes [] small = refl
 bytes_of-hex_bytes (b ∷ bs) small =
     let byte : b < 256 = All-head (λ x. x < 256) b bs small in
@@ -142,7 +142,7 @@ hex_pair c d high low first second =
     ∙ ap (λ x. x ∷ hex_digit low ∷ []) first.0
     ∙ ap (λ x. c ∷ x ∷ []) second.0
 
-hex_bytes-spelled : (text bytes : List ℕ) → bytes_of text ≡ Some bytes → (hex_bytes bytes ≡ text) × All (λ b. b < 256) bytes
+pub hex_bytes-spelled : (text bytes : List ℕ) → bytes_of text ≡ Some bytes → (hex_bytes bytes ≡ text) × All (λ b. b < 256) bytes
 hex_bytes-spelled [] bytes read =
     let none : [] ≡ bytes = same_Some [] bytes read in
     rw (← none) (refl, All-nil (λ b. b < 256))
