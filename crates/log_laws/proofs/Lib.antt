@@ -1,0 +1,10 @@
+pub mod Rows
+pub mod Groups
+pub mod Firsts
+pub mod Lawful
+pub mod Known
+pub mod Submits
+pub mod Takes
+pub mod Offers
+pub mod Begun
+pub mod Played

@@ -1,0 +1,6 @@
+pub mod Scenarios
+pub mod Mirror
+pub mod Starts
+pub mod Deliveries
+pub mod Losers
+pub mod Queues
