@@ -216,7 +216,6 @@ module _ (b : Bus) (m : Mirror) (since now : ℕ) (sound : Sound b) (a : Agrees 
   }
     where
       first : mirror_after b.setup m (On now b.setup.number w.node (Start w.frame)) ≡ begun
-      unfolding begun
       first = own b.setup m now w.node (Start w.frame)
 
   pub begun-offered : Offered (bus_after_start b now w)

@@ -7,4 +7,7 @@ pub mod Submits
 pub mod Takes
 pub mod Offers
 pub mod Begun
+pub mod States
+pub mod Ended
+pub mod Followed
 pub mod Played

@@ -36,14 +36,14 @@ pub record RunWorld (p : Scenario) (w : World) : Type 0 where
   pub ahead : All (Acts p) w.ahead
 
 -- a step that changes members one by one, each staying live under its node
-record Steady (b after : Bus) : Type 0 where
+pub record Steady (b after : Bus) : Type 0 where
   setup : after.setup ≡ b.setup
   change : Member → Member
   members : after.members ≡ map change b.members
   node : KeepsNodes change
   live : (m : Member) → m.live ≡ true → (change m).live ≡ true
 
-steady : (p : Scenario) (b after : Bus) → RunBus p b → Steady b after → Sound after → RunBus p after
+pub steady : (p : Scenario) (b after : Bus) → RunBus p b → Steady b after → Sound after → RunBus p after
 steady p b after h s sound = record {
   sound = sound;
   setup = s.setup ∙ h.setup;
@@ -124,7 +124,7 @@ recover-steady : (b : Bus) (now node : ℕ) → Steady b (recover b now node).0
 unfolding recover
 recover-steady b now node = one-steady b node member_after_return (λ m. refl) (λ m k. k)
 
-take-steady : (b : Bus) (now node : ℕ) → Steady b (take_inbox b now node).0
+pub take-steady : (b : Bus) (now node : ℕ) → Steady b (take_inbox b now node).0
 unfolding take_inbox
 take-steady b now node = one-steady b node (member_after_inbox now) (λ m. refl) (λ m k. k)
 
@@ -135,7 +135,7 @@ all-along P step [] so_far k h = h
 all-along P step (x ∷ xs) so_far k h = all-along P step xs (along step so_far x) (λ b y a. k b y (inr a)) (k so_far.0 x (inl refl) h)
 
 module _ (p : Scenario) where
-  action_step-sound : (b : Bus) (a : Action) → Acts p a → RunBus p b → RunBus p (action_step b a).0
+  pub action_step-sound : (b : Bus) (a : Action) → Acts p a → RunBus p b → RunBus p (action_step b a).0
   action_step-sound b a k h = steady p b (action_step b a).0 h (submit-steady b a.moment a.node (submission_of b.setup a.item))
       (submit-sound b a.moment a.node (submission_of b.setup a.item) h.sound (submission_of-fits b.setup a.item k.item)
       (let n = any_to (λ n. n == a.node) p.nodes k.node in
@@ -166,7 +166,7 @@ module _ (p : Scenario) where
       (λ a k. each-All (Acts p) w.ahead a h (filter-among (λ a. nat_lt now a.moment) w.ahead a k).0)
 
   -- a start is the bus's own, not the file's
-  own-start : (w : World) (d : Due) → next_event p.stop w ≡ Some d → d.what ≡ Start → next_due w.bus w.now ≡ Some (at Start d.moment)
+  pub own-start : (w : World) (d : Due) → next_event p.stop w ≡ Some d → d.what ≡ Start → next_due w.bus w.now ≡ Some (at Start d.moment)
   unfolding next_event
   own-start w d e s = file w.ahead (below (or_asked (next_due w.bus w.now) w.ahead) e)
     where
@@ -196,7 +196,7 @@ module _ (p : Scenario) where
       file [] k = k ∙ ap Some whole
       file (a ∷ as') k = better (next_due w.bus w.now) a.moment k ∙ ap Some whole
 
-  after-sound : (w : World) (d : Due) → next_event p.stop w ≡ Some d → RunWorld p w → RunWorld p (world_behind w d).0
+  pub after-sound : (w : World) (d : Due) → next_event p.stop w ≡ Some d → RunWorld p w → RunWorld p (world_behind w d).0
   after-sound w d e h = record {
     bus = event_step-sound w d.moment d.what (own-start w d e) h;
     ahead = later_part-action_step w d.moment d.what h.ahead;
@@ -255,7 +255,7 @@ module _ (p : Scenario) where
       move m (inl (inr a)) = inl a
       move m (inr a) = inr (inr a)
 
-  opening-sound : IsScenario p → RunWorld p (opening p)
+  pub opening-sound : IsScenario p → RunWorld p (opening p)
   opening-sound h = record {
     bus = enter-all p.nodes [] (new_bus p.setup p.nodes) first p.nodes (λ n a. inl a)
         (λ seen c k e. record {

@@ -18,7 +18,7 @@ use Rattle.log_laws.specs.Deliveries.{hurt_node}
 use Rattle.log_laws.specs.Losers.{tells_loss, loss_next}
 use Rattle.log_laws.proofs.Rows.{map-among-same, map-map, rise-after}
 use Rattle.log_laws.proofs.Lawful.{Opens, Lawful, LawfulTold, Within, Follows, follows-none, Agrees, seen, follow}
-use Rattle.log_laws.proofs.Known.{own, one-line, with_node-seen}
+use Rattle.log_laws.proofs.Known.{Offered, own, one-line, with_node-seen}
 
 -- what is told changes nothing but a node, and is lawful anywhere
 record Gentle (node : ℕ) (told : Told) : Type 0 where
@@ -221,3 +221,11 @@ module _ (b : Bus) (m : Mirror) (now node : ℕ) (sound : Sound b) (a : Agrees m
     last = a.last;
     running = a.running;
   }) (λ rest o. o.loss) refl refl
+
+pub take-offered : (b : Bus) (now node : ℕ) → Offered b → Offered (take_inbox b now node).0
+unfolding take_inbox
+take-offered b now node h = h
+
+pub recover-offered : (b : Bus) (now node : ℕ) → Offered b → Offered (recover b now node).0
+unfolding recover
+recover-offered b now node h = h
