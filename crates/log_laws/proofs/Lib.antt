@@ -10,4 +10,5 @@ pub mod Begun
 pub mod States
 pub mod Ended
 pub mod Followed
+pub mod Laws
 pub mod Played

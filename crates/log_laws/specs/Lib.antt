@@ -4,3 +4,4 @@ pub mod Starts
 pub mod Deliveries
 pub mod Losers
 pub mod Queues
+pub mod Accounts

@@ -56,9 +56,9 @@ loss_next [] = false
 loss_next (line ∷ rest) = is_loss line
 
 -- Each line of a loser stands directly behind a start, or behind a further loser.
-abbrev pub LossesStandBehindStarts : List Line → Type 0
-LossesStandBehindStarts lines = (before rest : List Line) (line : Line) → lines ≡ before ++ line ∷ rest
-    → loss_next rest ≡ true → is_start line ≡ false → is_loss line ≡ true
+pub record LossesStandBehindStarts (lines : List Line) : Type 0 where
+  pub first : loss_next lines ≡ false
+  pub behind : (before rest : List Line) (line : Line) → lines ≡ before ++ line ∷ rest → is_start line ≡ false → is_loss line ≡ false → loss_next rest ≡ false
 
 -- Each frame that is discarded waits.
 abbrev pub DiscardedFramesWait : Setup → List ℕ → List Line → Type 0

@@ -1,2 +1,47 @@
-//! Laws of whole logs: each is the contract of a function with an empty body.
+//! Laws of whole logs: each is the contract of a function with an empty body, and holds of the log of
+//! every scenario with any budget of events. What a law says of a line it says by what a reader knows
+//! from the lines before it.
 #![tactic(auto)]
+
+ghost use Rattle.std.specs.Prelude.{ℕ};
+ghost use Rattle.play_specs.specs.Scenario.{Scenario, scenario_lines};
+ghost use Rattle.log_laws.specs.Scenarios.{IsScenario};
+ghost use Rattle.log_laws.specs.Starts.{StartsAreForemost, StartersTakePart, StartsWhereFree};
+ghost use Rattle.log_laws.specs.Deliveries.{DeliveriesReachListeners, FailuresAreOfTheFrame};
+ghost use Rattle.log_laws.specs.Losers.{LosersAreTold, LossesStandBehindStarts, DiscardedFramesWait};
+ghost use Rattle.log_laws.specs.Queues.{RequestsFit};
+ghost use Rattle.log_laws.specs.Accounts.{NothingIsForgotten};
+
+/// A start is of the frame that wins among what waits of the nodes able to start: those that are awake
+/// and not off, after the intermission, a passive last sender 8 bits later.
+pub fn each_start_is_of_the_foremost()
+    // None that waits beats it. Of frames that arbitrate alike it is of the lowest node, and of this
+    // node's the first that was requested.
+    ensures foremost { (budget : ℕ) (p : Scenario) → IsScenario p → StartsAreForemost p.setup p.nodes (scenario_lines budget p) }
+
+    // A node that is asleep or off never starts.
+    ensures takes_part { (budget : ℕ) (p : Scenario) → IsScenario p → StartersTakePart p.setup p.nodes (scenario_lines budget p) }
+
+    // No frame runs, and the last one ended three bits ago or earlier.
+    ensures free { (budget : ℕ) (p : Scenario) → IsScenario p → StartsWhereFree p.setup p.nodes (scenario_lines budget p) }
+{}
+
+/// A frame ends as the one on the wire: delivered to the nodes that listened at its start less the one
+/// that was hurt and those asleep at the end, so to none that is asleep or off; or failed.
+pub fn each_frame_reaches_its_listeners()
+    ensures delivered { (budget : ℕ) (p : Scenario) → IsScenario p → DeliveriesReachListeners p.setup p.nodes (scenario_lines budget p) }
+    ensures failed { (budget : ℕ) (p : Scenario) → IsScenario p → FailuresAreOfTheFrame p.setup p.nodes (scenario_lines budget p) }
+{}
+
+/// At a start every other node that is able and has something waiting loses with the foremost of it,
+/// which is kept or discarded as the node configured.
+pub fn each_loser_is_told()
+    // Directly behind the start stand the lines of these nodes, in their order, and no other line of a loser.
+    ensures losers { (budget : ℕ) (p : Scenario) → IsScenario p → LosersAreTold p.setup p.nodes (scenario_lines budget p) }
+
+    // No line of a loser stands elsewhere.
+    ensures behind { (budget : ℕ) (p : Scenario) → IsScenario p → LossesStandBehindStarts (scenario_lines budget p) }
+
+    // What is discarded waits.
+    ensures waits { (budget : ℕ) (p : Scenario) → IsScenario p → DiscardedFramesWait p.setup p.nodes (scenario_lines budget p) }
+{}
