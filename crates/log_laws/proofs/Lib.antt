@@ -11,4 +11,5 @@ pub mod States
 pub mod Ended
 pub mod Followed
 pub mod Laws
+pub mod Balance
 pub mod Played

@@ -45,3 +45,16 @@ pub fn each_loser_is_told()
     // What is discarded waits.
     ensures waits { (budget : ℕ) (p : Scenario) → IsScenario p → DiscardedFramesWait p.setup p.nodes (scenario_lines budget p) }
 {}
+
+/// A request is accepted where fewer than 256 frames of its node wait, full where 256 do, and dropped
+/// where its node is off. So no node ever has more than 256.
+pub fn each_request_finds_its_fate()
+    ensures fits { (budget : ℕ) (p : Scenario) → IsScenario p → RequestsFit p.setup p.nodes (scenario_lines budget p) }
+{}
+
+/// Nothing that was accepted is forgotten: up to each line of a log, whichever frames of which nodes
+/// are meant, those accepted are as many as those delivered, discarded, fallen with their node when it
+/// went off, and still waiting.
+pub fn nothing_accepted_is_forgotten()
+    ensures balance { (budget : ℕ) (p : Scenario) → IsScenario p → NothingIsForgotten p.setup p.nodes (scenario_lines budget p) }
+{}
