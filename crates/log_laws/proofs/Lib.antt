@@ -12,4 +12,5 @@ pub mod Ended
 pub mod Followed
 pub mod Laws
 pub mod Balance
+pub mod Refused
 pub mod Played

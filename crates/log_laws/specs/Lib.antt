@@ -5,3 +5,4 @@ pub mod Deliveries
 pub mod Losers
 pub mod Queues
 pub mod Accounts
+pub mod WrongLogs

@@ -11,6 +11,7 @@ ghost use Rattle.log_laws.specs.Deliveries.{DeliveriesReachListeners, FailuresAr
 ghost use Rattle.log_laws.specs.Losers.{LosersAreTold, LossesStandBehindStarts, DiscardedFramesWait};
 ghost use Rattle.log_laws.specs.Queues.{RequestsFit};
 ghost use Rattle.log_laws.specs.Accounts.{NothingIsForgotten};
+ghost use Rattle.log_laws.specs.WrongLogs as wrong;
 
 /// A start is of the frame that wins among what waits of the nodes able to start: those that are awake
 /// and not off, after the intermission, a passive last sender 8 bits later.
@@ -57,4 +58,22 @@ pub fn each_request_finds_its_fate()
 /// went off, and still waiting.
 pub fn nothing_accepted_is_forgotten()
     ensures balance { (budget : ℕ) (p : Scenario) → IsScenario p → NothingIsForgotten p.setup p.nodes (scenario_lines budget p) }
+{}
+
+/// Logs that are wrong in one thing are refused, each by the law that it breaks.
+pub fn wrong_logs_are_refused()
+    ensures latest_of_equals { StartsAreForemost wrong.plain wrong.nodes wrong.latest_of_equals → ⊥ }
+    ensures beaten_winner { StartsAreForemost wrong.plain wrong.nodes wrong.beaten_winner → ⊥ }
+    ensures higher_node { StartsAreForemost wrong.plain wrong.nodes wrong.higher_node → ⊥ }
+    ensures sleeping_sender { StartersTakePart wrong.plain wrong.nodes wrong.sleeping_sender → ⊥ }
+    ensures early_start { StartsWhereFree wrong.plain wrong.nodes wrong.early_start → ⊥ }
+    ensures sleeping_receiver { DeliveriesReachListeners wrong.plain wrong.nodes wrong.sleeping_receiver → ⊥ }
+    ensures hurt_receiver { DeliveriesReachListeners wrong.plain wrong.nodes wrong.hurt_receiver → ⊥ }
+    ensures missed_receiver { DeliveriesReachListeners wrong.plain wrong.nodes wrong.missed_receiver → ⊥ }
+    ensures delivered_twice { DeliveriesReachListeners wrong.plain wrong.nodes wrong.delivered_twice → ⊥ }
+    ensures silent_loser { LosersAreTold wrong.plain wrong.nodes wrong.silent_loser → ⊥ }
+    ensures kept_for_discard { LosersAreTold wrong.plain wrong.nodes wrong.kept_for_discard → ⊥ }
+    ensures loser_of_nothing { LossesStandBehindStarts wrong.loser_of_nothing → ⊥ }
+    ensures accepted_off { RequestsFit wrong.plain wrong.nodes wrong.accepted_off → ⊥ }
+    ensures full_too_soon { RequestsFit wrong.plain wrong.nodes wrong.full_too_soon → ⊥ }
 {}
