@@ -13,4 +13,6 @@ pub mod Followed
 pub mod Laws
 pub mod Balance
 pub mod Refused
+pub mod Moments
+pub mod Due
 pub mod Played

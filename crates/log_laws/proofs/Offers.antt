@@ -80,7 +80,7 @@ module _ (b : Bus) (m : Mirror) (now : ℕ) (a : Agrees m b) (live : (x : Member
   pub takes-part : (x : Member) → Among b.members x → takes_part (seen x) ≡ bus.takes_part x
   takes-part x k = ap (λ t. x.awake && not t) (level-off x.counters) ∙ sym (ap (λ t. t && x.awake && not (off x)) (live x k))
 
-  ready : (x : Member) → ready_from b.setup m (seen x) ≡ ready_moment b x
+  pub ready : (x : Member) → ready_from b.setup m (seen x) ≡ ready_moment b x
   ready x = rw (a.idle, a.last) (ap (λ t. b.idle + (if t && is x.node b.last_sender then 8 * b.setup.nominal else 0)) (level-passive x.counters))
 
   offer-shown : (n : ℕ) → foremost stronger (of_node m.waits n) ≡ option_map shown (bus.offer b.requests n)

@@ -1,5 +1,5 @@
 -- Which frame a start is of, and when, read off the lines before it.
-use Rattle.std.specs.Prelude.{◌≡◌, ◌≤◌, ℕ, ◌+◌, ◌*◌, ◌==◌, ◌&&◌, Bool, true, List, ◌∷◌, ◌++◌, filter, flat_map, None, if◌then◌else◌, nat_le}
+use Rattle.std.specs.Prelude.{◌≡◌, ◌≤◌, ◌<◌, ℕ, ◌+◌, ◌*◌, ◌==◌, ◌&&◌, Bool, true, List, [], ◌∷◌, ◌++◌, filter, flat_map, fold, None, if◌then◌else◌, nat_le}
 use Rattle.frame_specs.specs.Frame.{Frame}
 use Rattle.frame_specs.specs.Dominance.{beats}
 use Rattle.operation_specs.specs.Operation.{Passive}
@@ -7,7 +7,7 @@ use Rattle.run_specs.specs.Order.{IsForemost}
 use Rattle.bus_specs.specs.Bus.{Setup, is}
 use Rattle.bus_specs.specs.Finish.{same_level}
 use Rattle.bus_specs.specs.Waits.{Waiting}
-use Rattle.log_specs.specs.Line.{Line, On, Start}
+use Rattle.log_specs.specs.Line.{Line, On, Down, Over, End, Start}
 use Rattle.log_laws.specs.Mirror.{Seen, Mirror, mirror, takes_part, seen_is}
 
 abbrev pub stronger : Waiting → Waiting → Bool
@@ -46,3 +46,23 @@ pub record IsFree (m : Mirror) (moment : ℕ) : Type 0 where
 abbrev pub StartsWhereFree : Setup → List ℕ → List Line → Type 0
 StartsWhereFree s nodes lines = (before rest : List Line) (t bus node : ℕ) (f : Frame) → lines ≡ before ++ On t bus node (Start f) ∷ rest
     → IsFree (mirror s nodes before) t
+
+-- the moment of the last line, 0 where there is none
+abbrev pub moment_after : ℕ → Line → ℕ
+moment_after last (On moment bus node told) = moment
+moment_after last (Down moment node cause) = moment
+moment_after last (Over moment node) = moment
+moment_after last (End status events) = last
+
+abbrev pub last_moment : List Line → ℕ
+last_moment lines = fold moment_after 0 lines
+
+-- From the last line on a frame couldn't have started earlier: nothing waited that was able to start.
+pub record IsPrompt (s : Setup) (m : Mirror) (last moment : ℕ) : Type 0 where
+  pub later : last ≤ moment
+  pub not_before : (earlier : ℕ) → last ≤ earlier → earlier < moment → contenders s m earlier ≡ []
+
+-- Each start is prompt.
+abbrev pub StartsArePrompt : Setup → List ℕ → List Line → Type 0
+StartsArePrompt s nodes lines = (before rest : List Line) (t bus node : ℕ) (f : Frame) → lines ≡ before ++ On t bus node (Start f) ∷ rest
+    → IsPrompt s (mirror s nodes before) (last_moment before) t
