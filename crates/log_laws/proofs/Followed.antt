@@ -25,7 +25,7 @@ use Rattle.log_laws.proofs.Played.{RunBus, RunWorld, steady, take-steady, action
 use Rattle.bus_sound.proofs.Quiet.{one, take_inbox-sound}
 
 -- steps one after another, with the lines so far
-all-pairs : {A : Type 0} (P : Bus × List Line → Type 0) (step : Bus → A → Bus × List Line) (xs : List A) (so_far : Bus × List Line)
+pub all-pairs : {A : Type 0} (P : Bus × List Line → Type 0) (step : Bus → A → Bus × List Line) (xs : List A) (so_far : Bus × List Line)
     → ((q : Bus × List Line) (x : A) → Among xs x → P q → P (along step q x)) → P so_far → P (fold (along step) so_far xs)
 all-pairs P step [] so_far k h = h
 all-pairs P step (x ∷ xs) so_far k h = all-pairs P step xs (along step so_far x) (λ q y a. k q y (inr a)) (k so_far x (inl refl) h)
@@ -57,7 +57,7 @@ module _ (p : Scenario) where
         (submit-follows q.0 (follow p.setup m q.1) a.moment a.node g.bus.sound g.follows.agrees (submission_of (q.0).setup a.item)));
   }
 
-  event-goes : (w : World) (m : Mirror) (now : ℕ) (what : What) → (what ≡ Start → next_due w.bus w.now ≡ Some (at Start now)) → RunWorld p w → Offered w.bus → Agrees m w.bus
+  pub event-goes : (w : World) (m : Mirror) (now : ℕ) (what : What) → (what ≡ Start → next_due w.bus w.now ≡ Some (at Start now)) → RunWorld p w → Offered w.bus → Agrees m w.bus
       → Offered (event_step w now what).0 × Follows m p.setup (event_step w now what).1 (event_step w now what).0
   event-goes w m now Finish d h f a = (finish-offered w.bus now f,
       here m (finish w.bus now).1 w.bus (finish w.bus now).0 h.bus.setup (finish-follows w.bus m now h.bus.sound a h.bus.live f))
@@ -101,7 +101,7 @@ module _ (p : Scenario) where
   all-enter m [] b a f = (a, f)
   all-enter m (n ∷ ns) b a f = all-enter m ns (enter b n) (enter-agrees m b n a) f
 
-  opening-agrees : Agrees (new_mirror p.nodes) (opening p).bus × Offered (opening p).bus
+  pub opening-agrees : Agrees (new_mirror p.nodes) (opening p).bus × Offered (opening p).bus
   opening-agrees = all-enter (new_mirror p.nodes) p.nodes (new_bus p.setup p.nodes) (record {
     nodes = sym (map-map seen new_member p.nodes);
     waits = refl;

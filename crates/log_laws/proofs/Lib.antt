@@ -15,4 +15,5 @@ pub mod Balance
 pub mod Refused
 pub mod Moments
 pub mod Due
+pub mod Prompt
 pub mod Played

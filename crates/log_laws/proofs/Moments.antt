@@ -107,7 +107,7 @@ module _ (b : Bus) (now : ℕ) where
   take-quiet node = quiet-flat b.setup now (λ m. map (On now b.setup.number node) (told_notices now m)) (members_at b node)
       (λ m. three-quiet node (due_lost now m) (due_format now m) (due_wake now m))
 
-  losses-quiet : (ls : List Request) → Quiet b.setup now (map (λ r. On now b.setup.number r.node (loser_told b r)) ls)
+  pub losses-quiet : (ls : List Request) → Quiet b.setup now (map (λ r. On now b.setup.number r.node (loser_told b r)) ls)
   losses-quiet [] = tt
   losses-quiet (r ∷ ls) = (((refl, refl), go (discards b r)), losses-quiet ls)
     where

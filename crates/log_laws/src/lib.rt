@@ -6,7 +6,7 @@
 ghost use Rattle.std.specs.Prelude.{ℕ};
 ghost use Rattle.play_specs.specs.Scenario.{Scenario, scenario_lines};
 ghost use Rattle.log_laws.specs.Scenarios.{IsScenario};
-ghost use Rattle.log_laws.specs.Starts.{StartsAreForemost, StartersTakePart, StartsWhereFree};
+ghost use Rattle.log_laws.specs.Starts.{StartsAreForemost, StartersTakePart, StartsWhereFree, StartsArePrompt};
 ghost use Rattle.log_laws.specs.Deliveries.{DeliveriesReachListeners, FailuresAreOfTheFrame};
 ghost use Rattle.log_laws.specs.Losers.{LosersAreTold, LossesStandBehindStarts, DiscardedFramesWait};
 ghost use Rattle.log_laws.specs.Queues.{RequestsFit};
@@ -25,6 +25,9 @@ pub fn each_start_is_of_the_foremost()
 
     // No frame runs, and the last one ended three bits ago or earlier.
     ensures free { (budget : ℕ) (p : Scenario) → IsScenario p → StartsWhereFree p.setup p.nodes (scenario_lines budget p) }
+
+    // It is not put off: from the last line on nothing that waits could have started earlier.
+    ensures prompt { (budget : ℕ) (p : Scenario) → IsScenario p → StartsArePrompt p.setup p.nodes (scenario_lines budget p) }
 {}
 
 /// A frame ends as the one on the wire: delivered to the nodes that listened at its start less the one

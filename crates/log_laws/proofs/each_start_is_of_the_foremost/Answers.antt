@@ -1,3 +1,4 @@
+use Rattle.log_laws.proofs.Prompt.{starts-prompt}
 use Rattle.log_laws.proofs.Laws.{starts-foremost, starters-take-part, starts-free}
 use Rattle.log_laws.proofs.each_start_is_of_the_foremost.Goals as goal
 
@@ -9,3 +10,6 @@ returns-clause-takes_part c = starters-take-part
 
 pub returns-clause-free : goal.returns-clause-free
 returns-clause-free c = starts-free
+
+pub returns-clause-prompt : goal.returns-clause-prompt
+returns-clause-prompt c = starts-prompt
