@@ -16,4 +16,7 @@ pub mod Refused
 pub mod Moments
 pub mod Due
 pub mod Prompt
+pub mod Runs
+pub mod Endings
+pub mod Timed
 pub mod Played

@@ -5,4 +5,5 @@ pub mod Deliveries
 pub mod Losers
 pub mod Queues
 pub mod Accounts
+pub mod Moments
 pub mod WrongLogs

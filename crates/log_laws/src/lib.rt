@@ -4,13 +4,14 @@
 #![tactic(auto)]
 
 ghost use Rattle.std.specs.Prelude.{ℕ};
-ghost use Rattle.play_specs.specs.Scenario.{Scenario, scenario_lines};
+ghost use Rattle.play_specs.specs.Scenario.{Scenario, scenario_lines, scenario_status};
 ghost use Rattle.log_laws.specs.Scenarios.{IsScenario};
 ghost use Rattle.log_laws.specs.Starts.{StartsAreForemost, StartersTakePart, StartsWhereFree, StartsArePrompt};
 ghost use Rattle.log_laws.specs.Deliveries.{DeliveriesReachListeners, FailuresAreOfTheFrame};
 ghost use Rattle.log_laws.specs.Losers.{LosersAreTold, LossesStandBehindStarts, DiscardedFramesWait};
 ghost use Rattle.log_laws.specs.Queues.{RequestsFit};
 ghost use Rattle.log_laws.specs.Accounts.{NothingIsForgotten};
+ghost use Rattle.log_laws.specs.Moments.{ByMoment, MomentsNeverFall, LinesAreOf, EndsWith, GoesOn};
 ghost use Rattle.log_laws.specs.WrongLogs as wrong;
 
 /// A start is of the frame that wins among what waits of the nodes able to start: those that are awake
@@ -61,6 +62,21 @@ pub fn each_request_finds_its_fate()
 /// went off, and still waiting.
 pub fn nothing_accepted_is_forgotten()
     ensures balance { (budget : ℕ) (p : Scenario) → IsScenario p → NothingIsForgotten p.setup p.nodes (scenario_lines budget p) }
+{}
+
+/// Where what is asked stands by moment, the moments of a log never fall. Its lines are of its bus, and
+/// none is after the stop.
+pub fn moments_never_fall()
+    ensures later { (budget : ℕ) (p : Scenario) → IsScenario p → ByMoment p → MomentsNeverFall (scenario_lines budget p) }
+    ensures own { (budget : ℕ) (p : Scenario) → IsScenario p → LinesAreOf p (scenario_lines budget p) }
+{}
+
+/// The last line of a log, and no other, tells the status and the number of events. The status is 8
+/// only where the budget is spent. A larger budget goes on where a smaller one ends, and with status 0
+/// changes nothing.
+pub fn each_log_ends_with_its_status()
+    ensures ends { (budget : ℕ) (p : Scenario) → IsScenario p → EndsWith (scenario_status budget p) budget (scenario_lines budget p) }
+    ensures goes_on { (budget more : ℕ) (p : Scenario) → GoesOn budget more p }
 {}
 
 /// Logs that are wrong in one thing are refused, each by the law that it breaks.
