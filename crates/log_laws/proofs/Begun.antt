@@ -3,7 +3,7 @@ use Rattle.std.proofs.Common.{◌≡◌, ℕ, ◌+◌, ◌-◌, ◌<◌, ◌≤�
 use Rattle.std.specs.Prelude.{◌&&◌, option_map, ⊤}
 use Rattle.std.specs.List.{list_any}
 use Rattle.std.proofs.lemmas.Bool.{and_parts, and_left, both_ways, not-true, not_from_false, eqb-true, false_from_ne_true}
-use Rattle.frame_specs.specs.Wire.{wire_bits}
+use Rattle.frame_specs.specs.Wire.{wire_bits, ack_place}
 use Rattle.bus_specs.specs.Bus.{Bus, Setup, ErrorEntry, Member, Request, Running, Hurt, is, winner}
 use Rattle.bus_specs.specs.Bus as bus
 use Rattle.bus_specs.specs.Start.{losers, discards, discarded, is_same, is_gone, member_after_start, listeners, entry_of_attempt, node_of_entry, Course, course_to_error, course_of_frame, only_hurts, course_by_entry, course_with, course, running_frame, bus_after_start, loser_told, start_lines, start_with, start}
@@ -22,7 +22,7 @@ use Rattle.log_laws.specs.Losers.{losses, tells_loss, loss_line, losing, loss_ne
 use Rattle.log_laws.specs.Starts.{IsFree}
 use Rattle.log_laws.proofs.Rows.{filter-map, filter-same, filter-all, map-map, map-among-same, any-map, rise-after}
 use Rattle.log_laws.proofs.Firsts.{First, shown, first-filter, first-goes, first-found, gone-cons}
-use Rattle.log_laws.proofs.Lawful.{Opens, StartIs, Lawful, LawfulTold, Within, Follows, follows-none, Agrees, SameRunning, SameFrame, less, hurt_of, seen, follow}
+use Rattle.log_laws.proofs.Lawful.{Opens, StartIs, Lawful, LawfulTold, Within, Follows, follows-none, Agrees, SameRunning, SameFrame, EndsBy, less, hurt_of, seen, follow}
 use Rattle.log_laws.proofs.Known.{own, Offered, request_of, map-unseen}
 use Rattle.log_laws.proofs.Offers.{offers-first, offers-rise, takes-part, offers-shown, winner-foremost, offers-take-part}
 
@@ -154,6 +154,30 @@ module _ (b : Bus) (now : ℕ) (w : Request) where
       go None = frame-heard None heard ∙ less-none heard ∙ ap (λ o. less (option_map (λ (h : Hurt). h.node) o) heard) (sym (frame-hurt None heard))
       go (Some e) = by e (only_hurts b w.node (node_of_entry e w.node))
 
+  frame-ends : (hurt : Option Hurt) (heard : List ℕ) → EndsBy b.setup now w.frame (course_of_frame b now w hurt heard).fault (course_of_frame b now w hurt heard).end
+  frame-ends hurt [] = (ack_place w.frame, omega arith)
+  frame-ends hurt (n ∷ ns) = refl
+
+  course-ends : EndsBy b.setup now w.frame (course b now w).fault (course b now w).end
+  unfolding course
+  course-ends = go (entry_of_attempt b w.node heard)
+    where
+      heard : List ℕ
+      heard = listeners b w.node
+
+      by : (e : ErrorEntry) (t : Bool)
+          → EndsBy b.setup now w.frame
+            (if t then course_of_frame b now w (Some (record { node = node_of_entry e w.node; kind = e.kind })) (filter (λ n. not (n == node_of_entry e w.node)) heard)
+            else course_to_error b now w.frame (min e.bit (wire_bits w.frame - 1)) (record { kind = e.kind; by = node_of_entry e w.node }) None heard).fault
+            (if t then course_of_frame b now w (Some (record { node = node_of_entry e w.node; kind = e.kind })) (filter (λ n. not (n == node_of_entry e w.node)) heard)
+            else course_to_error b now w.frame (min e.bit (wire_bits w.frame - 1)) (record { kind = e.kind; by = node_of_entry e w.node }) None heard).end
+      by e true = frame-ends (Some (record { node = node_of_entry e w.node; kind = e.kind })) (filter (λ n. not (n == node_of_entry e w.node)) heard)
+      by e false = (min e.bit (wire_bits w.frame - 1), omega arith)
+
+      go : (o : Option ErrorEntry) → EndsBy b.setup now w.frame (course_with b now w heard o).fault (course_with b now w heard o).end
+      go None = frame-ends None heard
+      go (Some e) = by e (only_hurts b w.node (node_of_entry e w.node))
+
 module _ (b : Bus) (m : Mirror) (since now : ℕ) (sound : Sound b) (a : Agrees m b) (live : (x : Member) → Among b.members x → x.live ≡ true)
     (d : next_due b since ≡ Some (at due.Start now)) (w : Request) (e : winner b now ≡ Some w) where
   wins-among : Among (bus.offers b now) w
@@ -168,11 +192,11 @@ module _ (b : Bus) (m : Mirror) (since now : ℕ) (sound : Sound b) (a : Agrees 
 
   -- the mirror behind the line of the start
   begun : Mirror
-  begun = record m { running = Some (record { sender = w.node; frame = w.frame; listeners = listening m.nodes w.node }) }
+  begun = record m { running = Some (record { sender = w.node; frame = w.frame; since = now; listeners = listening m.nodes w.node }) }
 
-  free : (o : Option Running) → b.running ≡ o → o ≡ None → (v : Option OnWire) → SameRunning v b.running → v ≡ None
+  free : (o : Option Running) → b.running ≡ o → o ≡ None → (v : Option OnWire) → SameRunning b.setup v b.running → v ≡ None
   free o p q None s = refl
-  free o p q (Some v) s = absurd (subst (λ r. SameRunning (Some v) r) (p ∙ q) s)
+  free o p q (Some v) s = absurd (subst (λ r. SameRunning b.setup (Some v) r) (p ∙ q) s)
 
   losing-lines : losing b.setup m now b.setup.number w.node ≡ loss_lines b now (losers b now w.node)
   unfolding loss_lines
@@ -209,6 +233,7 @@ module _ (b : Bus) (m : Mirror) (since now : ℕ) (sound : Sound b) (a : Agrees 
         sender = refl;
         frame = refl;
         listeners = course-heard b now w ∙ ap (less (hurt_of (running_frame w (course b now w)))) (sym listening-same);
+        ends = course-ends b now w;
       };
     });
     lawful = λ after o. (start-is after o, subst (λ x. Within b.setup x (loss_lines b now (losers b now w.node)) after) (sym first) (behind-losses after).lawful);

@@ -260,3 +260,10 @@ event-some stop w d e = go d.what refl (due-or-asked stop w d e)
         let t : d.moment ≡ k.action.moment = ap (λ (x : Due). x.moment) k.due in
         actions-some (filter (λ a. a.moment == d.moment) w.ahead) k.action (fold (along (λ b node. take_inbox b d.moment node)) (w.bus, []) (takers w.bus d.moment))
         (among-filter (λ (a : Action). a.moment == d.moment) w.ahead k.action (subst (λ l. Among l k.action) (sym k.ahead) (inl refl)) (eq-eqb k.action.moment d.moment (sym t)))
+
+pub own-finish : (stop : ℕ) (w : World) (d : Due) → next_event stop w ≡ Some d → d.what ≡ Finish → Ends w.bus d.moment
+own-finish stop w d e q = go (due-or-asked stop w d e)
+  where
+    go : (next_due w.bus w.now ≡ Some d) ⊎ Asked w d → Ends w.bus d.moment
+    go (inl h) = finish-due w.bus w.now d h q
+    go (inr k) = absurd (let z : rank d.what ≡ 0 = ap rank q in let y : rank d.what ≡ 2 = ap (λ (x : Due). rank x.what) k.due in omega (arith, z, y))

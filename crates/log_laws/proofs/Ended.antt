@@ -15,11 +15,12 @@ use Rattle.bus_sound.proofs.Among.{Among, filter-among}
 use Rattle.bus_sound.proofs.Lists.{All-each, map-among, any_to, any_from}
 use Rattle.bus_sound.proofs.Consequences.{listener-on}
 use Rattle.log_laws.specs.Mirror.{Seen, OnWire, Mirror, mirror_after, mirror_told, takes_part, seen_is}
-use Rattle.log_laws.specs.Deliveries.{IsRunning, IsDelivery, receivers, hurt_next}
+use Rattle.log_laws.specs.Deliveries.{IsRunning, IsDelivery, IsFailure, receivers, hurt_next}
 use Rattle.log_laws.specs.Losers.{loss_next}
 use Rattle.log_laws.proofs.Rows.{filter-map, filter-same, filter-all, filter-both, map-map, any-map}
 use Rattle.log_laws.proofs.Firsts.{First, first-goes, first-found}
-use Rattle.log_laws.proofs.Lawful.{Opens, Lawful, LawfulTold, Within, Follows, follows-none, follows-append, Agrees, SameRunning, SameFrame, less, hurt_of, seen, follow}
+use Rattle.log_laws.proofs.Lawful.{Opens, Lawful, LawfulTold, Within, Follows, follows-none, follows-append, Agrees, SameRunning, SameFrame, EndsBy, less, hurt_of, seen, follow}
+use Rattle.log_laws.proofs.Due.{Ends}
 use Rattle.log_laws.proofs.Known.{own, Offered, request_of, level-off}
 use Rattle.log_laws.proofs.States.{lines_of, each, falls, Behind, told-states, states-seen, falls-off}
 
@@ -47,13 +48,13 @@ among-less (k ∷ ns) hurt n = go (not (is k hurt)) (k == n) refl refl (among-le
     go false false p q e = e
 
 module _ (b : Bus) (m : Mirror) (now : ℕ) (sound : Sound b) (a : Agrees m b) (live : (x : Member) → Among b.members x → x.live ≡ true)
-    (r : Running) (runs : b.running ≡ Some r) (first : First b.requests (request_of r)) where
-  wire-of : (o : Option OnWire) → SameRunning o (Some r) → (w : OnWire) × (o ≡ Some w) × SameFrame w r
+    (r : Running) (runs : b.running ≡ Some r) (ends : r.end ≡ now) (first : First b.requests (request_of r)) where
+  wire-of : (o : Option OnWire) → SameRunning b.setup o (Some r) → (w : OnWire) × (o ≡ Some w) × SameFrame b.setup w r
   wire-of None k = absurd k
   wire-of (Some w) k = (w, refl, k)
 
-  on-wire : (w : OnWire) × (m.running ≡ Some w) × SameFrame w r
-  on-wire = wire-of m.running (subst (λ o. SameRunning m.running o) runs a.running)
+  on-wire : (w : OnWire) × (m.running ≡ Some w) × SameFrame b.setup w r
+  on-wire = wire-of m.running (subst (λ o. SameRunning b.setup m.running o) runs a.running)
 
   is-running : IsRunning m r.sender r.frame
   is-running = record { wire = on-wire.0; running = on-wire.1; sender = (on-wire.2).sender; frame = (on-wire.2).frame }
@@ -129,15 +130,20 @@ module _ (b : Bus) (m : Mirror) (now : ℕ) (sound : Sound b) (a : Agrees m b) (
   tail-loss None ls after o = o.loss
   tail-loss (Some h) ls after o = refl
 
-  outcome-lawful : (o : Option Fault) (rest : List Line) → hurt_next rest ≡ hurt_of r → loss_next rest ≡ false → Lawful b.setup m (outcome_line b now r o) rest
+  ends-by : (o : Option Fault) → r.fault ≡ o → EndsBy b.setup (on-wire.0).since r.frame o now
+  ends-by o e = subst (λ t. EndsBy b.setup (on-wire.0).since r.frame o t) ends (subst (λ f. EndsBy b.setup (on-wire.0).since f o r.end) (on-wire.2).frame
+      (subst (λ x. EndsBy b.setup (on-wire.0).since (on-wire.0).frame x r.end) e (on-wire.2).ends))
+
+  outcome-lawful : (o : Option Fault) (rest : List Line) → r.fault ≡ o → hurt_next rest ≡ hurt_of r → loss_next rest ≡ false → Lawful b.setup m (outcome_line b now r o) rest
   unfolding is-running on-wire
-  outcome-lawful None rest h l = (record {
+  outcome-lawful None rest e h l = (record {
     runs = is-running;
+    ends = ends-by None e;
     waits = ap (list_any (is_meant r.sender r.frame)) a.waits ∙ first-found b.requests (request_of r) first;
     receivers = receivers-same ∙ ap (receivers m on-wire.0) (sym h);
     on = receivers-on;
   }, l)
-  outcome-lawful (Some e) rest h l = (is-running, l)
+  outcome-lawful (Some x) rest e h l = let k = ends-by (Some x) e in (record { runs = is-running; bit = k.0; ends = k.1 }, l)
 
   outcome-opens : (o : Option Fault) (rest : List Line) → Opens (outcome_line b now r o ∷ rest)
   outcome-opens None rest = record { loss = refl; hurt = refl }
@@ -167,7 +173,7 @@ module _ (b : Bus) (m : Mirror) (now : ℕ) (sound : Sound b) (a : Agrees m b) (
       running = tt;
     });
     lawful = λ after k. (
-      outcome-lawful o (tail ++ after) (tail-hurt r.hurt (lines_of b now r b.members) after (opened after k)) (tail-loss r.hurt (lines_of b now r b.members) after (opened after k)),
+      outcome-lawful o (tail ++ after) e (tail-hurt r.hurt (lines_of b now r b.members) after (opened after k)) (tail-loss r.hurt (lines_of b now r b.members) after (opened after k)),
       subst (λ x. Within b.setup x tail after) (sym (outcome-mirror o)) (hurt-within (settled o) r.hurt (lines_of b now r b.members) after (opened after k)
           (told-states b now r b.members (settled o) (unsent o) after refl k).lawful),
     );
@@ -184,14 +190,17 @@ module _ (b : Bus) (m : Mirror) (now : ℕ) (sound : Sound b) (a : Agrees m b) (
   unfolding tail
   finished-follows = ended r.fault refl
 
-pub finish-follows : (b : Bus) (m : Mirror) (now : ℕ) → Sound b → Agrees m b → ((x : Member) → Among b.members x → x.live ≡ true) → Offered b
+pub finish-follows : (b : Bus) (m : Mirror) (now : ℕ) → Sound b → Agrees m b → ((x : Member) → Among b.members x → x.live ≡ true) → Offered b → Ends b now
     → Follows m b.setup (finish b now).1 (finish b now).0
 unfolding finish
-finish-follows b m now sound a live first = go b.running refl first
+finish-follows b m now sound a live first ends = go b.running refl first
   where
+    same : {x y : Running} → Some x ≡ Some y → x ≡ y
+    same p = cc
+
     go : (o : Option Running) → b.running ≡ o → IfSome o (λ r. First b.requests (request_of r)) → Follows m b.setup (finish_with b now o).1 (finish_with b now o).0
     go None e k = follows-none m b.setup b a
-    go (Some r) e k = finished-follows b m now sound a live r e k
+    go (Some r) e k = let s : ends.frame ≡ r = same (sym ends.runs ∙ e) in finished-follows b m now sound a live r e (ap (λ (x : Running). x.end) (sym s) ∙ ends.end) k
 
 pub finish-offered : (b : Bus) (now : ℕ) → Offered b → Offered (finish b now).0
 unfolding finish

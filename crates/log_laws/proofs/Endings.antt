@@ -14,7 +14,7 @@ use Rattle.log_laws.specs.Moments.{IsOf, LinesAreOf, is_told, EndsWith, GoesOn}
 use Rattle.log_laws.proofs.Lawful.{Agrees, follow}
 use Rattle.log_laws.proofs.Known.{Offered}
 use Rattle.log_laws.proofs.Moments.{IsAt}
-use Rattle.log_laws.proofs.Due.{within-stop}
+use Rattle.log_laws.proofs.Due.{own-finish, within-stop}
 use Rattle.log_laws.proofs.Prompt.{AllAt, event-lines}
 use Rattle.log_laws.proofs.Played.{RunWorld, own-start, after-sound, opening-sound}
 use Rattle.log_laws.proofs.Followed.{event-goes, opening-agrees}
@@ -52,7 +52,7 @@ module _ (p : Scenario) where
           either : Among (event_step w d.moment d.what).1 line ⊎ Among (head (machine p.stop) k (world_behind w d).0) line → IsOwn p line
           either (inl i) = all-own p d.moment (event_step w d.moment d.what).1 (within-stop p.stop w d e) (event-lines p w m d.moment d.what (own-start p w d e) h a).at line i
           either (inr i) =
-              let g = event-goes p w m d.moment d.what (own-start p w d e) h f a in
+              let g = event-goes p w m d.moment d.what (own-start p w d e) (own-finish p.stop w d e) h f a in
               on (world_behind w d).0 (follow p.setup m (event_step w d.moment d.what).1) (after-sound p w d e h) g.0 g.1.agrees i
 
   pub head-own : (k : ℕ) → IsScenario p → (line : Line) → Among (head (machine p.stop) k (opening p)) line → IsOwn p line

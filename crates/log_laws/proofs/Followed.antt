@@ -21,6 +21,7 @@ use Rattle.log_laws.proofs.Submits.{submit-follows, submit-offered}
 use Rattle.log_laws.proofs.Takes.{take-follows, take-offered, recover-follows, recover-offered}
 use Rattle.log_laws.proofs.Begun.{start-follows, start-offered}
 use Rattle.log_laws.proofs.Ended.{finish-follows, finish-offered}
+use Rattle.log_laws.proofs.Due.{Ends, own-finish}
 use Rattle.log_laws.proofs.Played.{RunBus, RunWorld, steady, take-steady, action_step-sound, own-start, after-sound, opening-sound}
 use Rattle.bus_sound.proofs.Quiet.{one, take_inbox-sound}
 
@@ -57,19 +58,19 @@ module _ (p : Scenario) where
         (submit-follows q.0 (follow p.setup m q.1) a.moment a.node g.bus.sound g.follows.agrees (submission_of (q.0).setup a.item)));
   }
 
-  pub event-goes : (w : World) (m : Mirror) (now : ℕ) (what : What) → (what ≡ Start → next_due w.bus w.now ≡ Some (at Start now)) → RunWorld p w → Offered w.bus → Agrees m w.bus
+  pub event-goes : (w : World) (m : Mirror) (now : ℕ) (what : What) → (what ≡ Start → next_due w.bus w.now ≡ Some (at Start now)) → (what ≡ Finish → Ends w.bus now) → RunWorld p w → Offered w.bus → Agrees m w.bus
       → Offered (event_step w now what).0 × Follows m p.setup (event_step w now what).1 (event_step w now what).0
-  event-goes w m now Finish d h f a = (finish-offered w.bus now f,
-      here m (finish w.bus now).1 w.bus (finish w.bus now).0 h.bus.setup (finish-follows w.bus m now h.bus.sound a h.bus.live f))
-  event-goes w m now (Return n) d h f a = (recover-offered w.bus now n f,
+  event-goes w m now Finish d n h f a = (finish-offered w.bus now f,
+      here m (finish w.bus now).1 w.bus (finish w.bus now).0 h.bus.setup (finish-follows w.bus m now h.bus.sound a h.bus.live f (n refl)))
+  event-goes w m now (Return n) d x h f a = (recover-offered w.bus now n f,
       here m (recover w.bus now n).1 w.bus (recover w.bus now n).0 h.bus.setup (recover-follows w.bus m now n h.bus.sound a))
-  event-goes w m now Notices d h f a =
+  event-goes w m now Notices d n h f a =
       let g = all-pairs (λ q. Goes m q.1 q.0) action_step (filter (λ a. a.moment == now) w.ahead) (fold (along (λ b node. take_inbox b now node)) (w.bus, []) (takers w.bus now))
       (λ q x k i. action-goes m q x (each-All (Acts p) w.ahead x h.ahead (filter-among (λ a. a.moment == now) w.ahead x k).0) i)
       (all-pairs (λ q. Goes m q.1 q.0) (λ b node. take_inbox b now node) (takers w.bus now) (w.bus, [])
       (λ q n k i. take-goes m now q n i) (record { bus = h.bus; offered = f; follows = follows-none m p.setup w.bus a })) in
       (g.offered, g.follows)
-  event-goes w m now Start d h f a = (start-offered w.bus m w.now now h.bus.sound a h.bus.live (d refl) f,
+  event-goes w m now Start d n h f a = (start-offered w.bus m w.now now h.bus.sound a h.bus.live (d refl) f,
       here m (start w.bus now).1 w.bus (start w.bus now).0 h.bus.setup (start-follows w.bus m w.now now h.bus.sound a h.bus.live (d refl)))
 
   run-goes : (k : ℕ) (w : World) (m : Mirror) → RunWorld p w → Offered w.bus → Agrees m w.bus
@@ -83,7 +84,7 @@ module _ (p : Scenario) where
           → Follows m p.setup (then_from [] (λ x. x.1 ++ head (machine p.stop) k x.0) (option_map (world_behind w) o)) (then_from w (λ x. behind (machine p.stop) k x.0) (option_map (world_behind w) o)).bus
       go None e on = follows-none m p.setup w.bus a
       go (Some d) e on =
-          let g = event-goes w m d.moment d.what (own-start p w d e) h f a in
+          let g = event-goes w m d.moment d.what (own-start p w d e) (own-finish p.stop w d e) h f a in
           follows-append m p.setup (event_step w d.moment d.what).1 (head (machine p.stop) k (world_behind w d).0) (event_step w d.moment d.what).0
           (behind (machine p.stop) k (world_behind w d).0).bus g.1
           (on (world_behind w d).0 (follow p.setup m (event_step w d.moment d.what).1) (after-sound p w d e h) g.0 g.1.agrees)

@@ -1,17 +1,17 @@
 -- What holds at each line of a log, by what its reader knows; and what agrees with a bus.
-use Rattle.std.proofs.Common.{◌≡◌, ℕ, ◌≤◌, ◌==◌, Bool, true, false, not, List, [], ◌∷◌, ◌++◌, map, filter, fold, Option, Some, None, refl, ap, ◌∙◌, sym, subst, append_assoc}
+use Rattle.std.proofs.Common.{◌≡◌, ℕ, ◌+◌, ◌≤◌, ◌==◌, Bool, true, false, not, List, [], ◌∷◌, ◌++◌, map, filter, fold, Option, Some, None, refl, ap, ◌∙◌, sym, subst, append_assoc}
 use Rattle.std.specs.Prelude.{option_map, ⊤}
 use Rattle.std.specs.List.{list_any}
 use Rattle.std.proofs.lemmas.List.Sums.{fold-append}
 use Rattle.frame_specs.specs.Frame.{Frame}
 use Rattle.run_specs.specs.Order.{IsForemost}
 use Rattle.bus_specs.specs.Counters.{level}
-use Rattle.bus_specs.specs.Bus.{Bus, Setup, Member, Request, Running, is}
+use Rattle.bus_specs.specs.Bus.{Bus, Setup, Member, Request, Running, Fault, is}
 use Rattle.bus_specs.specs.Waits.{is_meant, waiting_of}
 use Rattle.log_specs.specs.Line.{Line, On, Down, Over, End, Told, Start, Req, Full, Drop, LostKept, LostGone, Done, Fail}
 use Rattle.log_laws.specs.Mirror.{Seen, OnWire, Mirror, mirror_after, takes_part, seen_is}
 use Rattle.log_laws.specs.Starts.{stronger, contenders, IsFree}
-use Rattle.log_laws.specs.Deliveries.{IsRunning, IsDelivery, hurt_next}
+use Rattle.log_laws.specs.Deliveries.{IsDelivery, IsFailure, hurt_next, time_on_wire, time_to_error}
 use Rattle.log_laws.specs.Losers.{losses, losing, loss_next}
 use Rattle.log_laws.specs.Queues.{HasRoom, IsFull, node_off}
 
@@ -30,8 +30,8 @@ abbrev pub LawfulTold : Setup → Mirror → ℕ → ℕ → ℕ → Told → Li
 LawfulTold s m t bus node (Start f) rest = StartIs s m t bus node f rest
 LawfulTold s m t bus node (LostKept f) rest = ⊤
 LawfulTold s m t bus node (LostGone f) rest = list_any (is_meant node f) m.waits ≡ true
-LawfulTold s m t bus node (Done f ns) rest = IsDelivery m node f ns rest × (loss_next rest ≡ false)
-LawfulTold s m t bus node (Fail f kind by) rest = IsRunning m node f × (loss_next rest ≡ false)
+LawfulTold s m t bus node (Done f ns) rest = IsDelivery s m t node f ns rest × (loss_next rest ≡ false)
+LawfulTold s m t bus node (Fail f kind by) rest = IsFailure s m t node f × (loss_next rest ≡ false)
 LawfulTold s m t bus node (Req f) rest = HasRoom m node × (loss_next rest ≡ false)
 LawfulTold s m t bus node (Full f) rest = IsFull m node × (loss_next rest ≡ false)
 LawfulTold s m t bus node (Drop f) rest = (node_off m node ≡ true) × (loss_next rest ≡ false)
@@ -60,23 +60,29 @@ less hurt ns = filter (λ n. not (is n hurt)) ns
 abbrev pub hurt_of : Running → Option ℕ
 hurt_of r = option_map (λ h. h.node) r.hurt
 
-pub record SameFrame (w : OnWire) (r : Running) : Type 0 where
+-- when an attempt ends that started then
+abbrev pub EndsBy : Setup → ℕ → Frame → Option Fault → ℕ → Type 0
+EndsBy s since f None end = end ≡ since + time_on_wire s f
+EndsBy s since f (Some e) end = (bit : ℕ) × (end ≡ since + time_to_error s f bit)
+
+pub record SameFrame (s : Setup) (w : OnWire) (r : Running) : Type 0 where
   pub sender : w.sender ≡ r.sender
   pub frame : w.frame ≡ r.frame
   pub listeners : r.listeners ≡ less (hurt_of r) w.listeners
+  pub ends : EndsBy s w.since w.frame r.fault r.end
 
-abbrev pub SameRunning : Option OnWire → Option Running → Type 0
-SameRunning None None = ⊤
-SameRunning None (Some r) = ⊥
-SameRunning (Some w) None = ⊥
-SameRunning (Some w) (Some r) = SameFrame w r
+abbrev pub SameRunning : Setup → Option OnWire → Option Running → Type 0
+SameRunning s None None = ⊤
+SameRunning s None (Some r) = ⊥
+SameRunning s (Some w) None = ⊥
+SameRunning s (Some w) (Some r) = SameFrame s w r
 
 pub record Agrees (m : Mirror) (b : Bus) : Type 0 where
   pub nodes : m.nodes ≡ map seen b.members
   pub waits : m.waits ≡ waiting_of b.requests
   pub idle : m.idle ≡ b.idle
   pub last : m.last_sender ≡ b.last_sender
-  pub running : SameRunning m.running b.running
+  pub running : SameRunning b.setup m.running b.running
 
 -- the lines of a step that takes a bus to another
 pub record Follows (m : Mirror) (s : Setup) (lines : List Line) (b : Bus) : Type 0 where

@@ -29,7 +29,7 @@ use Rattle.log_laws.proofs.Lawful.{Agrees, seen, follow}
 use Rattle.log_laws.proofs.Known.{Offered}
 use Rattle.log_laws.proofs.Offers.{takes-part, ready}
 use Rattle.log_laws.proofs.Moments.{IsAt, IsNoStart, Quiet, quiet-append, finish-quiet, recover-quiet, submit-quiet, take-quiet, losses-quiet, Some_lines}
-use Rattle.log_laws.proofs.Due.{start-least, event-some}
+use Rattle.log_laws.proofs.Due.{own-finish, start-least, event-some}
 use Rattle.log_laws.proofs.Played.{RunBus, RunWorld, steady, take-steady, action_step-sound, own-start, after-sound, opening-sound}
 use Rattle.log_laws.proofs.Followed.{event-goes, opening-agrees, all-pairs}
 
@@ -203,7 +203,7 @@ module _ (p : Scenario) where
           → Prompts p.setup m w.now (then_from [] (λ x. x.1 ++ head (machine p.stop) k x.0) (option_map (world_behind w) o))
       go None e on = tt
       go (Some d) e on =
-          let g = event-goes p w m d.moment d.what (own-start p w d e) h f a in
+          let g = event-goes p w m d.moment d.what (own-start p w d e) (own-finish p.stop w d e) h f a in
           let l = event-lines w m d.moment d.what (own-start p w d e) h a in
           let there : fold moment_after w.now (event_step w d.moment d.what).1 ≡ d.moment =
           comes-at p.setup d.moment w.now (event_step w d.moment d.what).1 l.at (event-some p.stop w d e) in

@@ -59,34 +59,34 @@ pub early-refused : StartsWhereFree WrongLogs.plain WrongLogs.nodes WrongLogs.ea
 early-refused h = let k : 63000 ≤ 62000 = (h WrongLogs.ended [] 62000 1 1 (WrongLogs.frame 6 1) refl).idle in omega (arith, k)
 
 -- whom a delivery reaches, where the frame on the wire is known
-reached : (m : Mirror) (node : ℕ) (f : Frame) (ns : List ℕ) (rest : List Line) (w : OnWire) → m.running ≡ Some w → IsDelivery m node f ns rest
+reached : (m : Mirror) (t node : ℕ) (f : Frame) (ns : List ℕ) (rest : List Line) (w : OnWire) → m.running ≡ Some w → IsDelivery WrongLogs.plain m t node f ns rest
     → ns ≡ receivers m w (hurt_next rest)
-reached m node f ns rest w e d = let s : (d.runs).wire ≡ w = some (sym (d.runs).running ∙ e) in d.receivers ∙ ap (λ x. receivers m x (hurt_next rest)) s
+reached m t node f ns rest w e d = let s : (d.runs).wire ≡ w = some (sym (d.runs).running ∙ e) in d.receivers ∙ ap (λ x. receivers m x (hurt_next rest)) s
   where
     some : {x y : OnWire} → Some x ≡ Some y → x ≡ y
     some p = cc
 
 wire : OnWire
-wire = record { sender = 0; frame = WrongLogs.frame 5 1; listeners = 1 ∷ 2 ∷ [] }
+wire = record { sender = 0; frame = WrongLogs.frame 5 1; since = 0; listeners = 1 ∷ 2 ∷ [] }
 
 pub sleeping-receiver-refused : DeliveriesReachListeners WrongLogs.plain WrongLogs.nodes WrongLogs.sleeping_receiver → ⊥
 unfolding wire
 sleeping-receiver-refused h =
-    let k : 1 ∷ 2 ∷ [] ≡ 2 ∷ [] = reached (mirror WrongLogs.plain WrongLogs.nodes WrongLogs.one_sleeps) 0 (WrongLogs.frame 5 1) (1 ∷ 2 ∷ []) [] wire refl
+    let k : 1 ∷ 2 ∷ [] ≡ 2 ∷ [] = reached (mirror WrongLogs.plain WrongLogs.nodes WrongLogs.one_sleeps) 60000 0 (WrongLogs.frame 5 1) (1 ∷ 2 ∷ []) [] wire refl
     (h WrongLogs.one_sleeps [] 60000 1 0 (WrongLogs.frame 5 1) (1 ∷ 2 ∷ []) refl) in
     let l : 2 ≡ 1 = ap length k in omega (arith, l)
 
 pub hurt-receiver-refused : DeliveriesReachListeners WrongLogs.plain WrongLogs.nodes WrongLogs.hurt_receiver → ⊥
 unfolding wire
 hurt-receiver-refused h =
-    let k : 1 ∷ 2 ∷ [] ≡ 2 ∷ [] = reached (mirror WrongLogs.plain WrongLogs.nodes WrongLogs.under_way) 0 (WrongLogs.frame 5 1) (1 ∷ 2 ∷ []) (WrongLogs.on 60000 1 (Hurt 2) ∷ []) wire refl
+    let k : 1 ∷ 2 ∷ [] ≡ 2 ∷ [] = reached (mirror WrongLogs.plain WrongLogs.nodes WrongLogs.under_way) 60000 0 (WrongLogs.frame 5 1) (1 ∷ 2 ∷ []) (WrongLogs.on 60000 1 (Hurt 2) ∷ []) wire refl
     (h WrongLogs.under_way (WrongLogs.on 60000 1 (Hurt 2) ∷ []) 60000 1 0 (WrongLogs.frame 5 1) (1 ∷ 2 ∷ []) refl) in
     let l : 2 ≡ 1 = ap length k in omega (arith, l)
 
 pub missed-receiver-refused : DeliveriesReachListeners WrongLogs.plain WrongLogs.nodes WrongLogs.missed_receiver → ⊥
 unfolding wire
 missed-receiver-refused h =
-    let k : 2 ∷ [] ≡ 1 ∷ 2 ∷ [] = reached (mirror WrongLogs.plain WrongLogs.nodes WrongLogs.under_way) 0 (WrongLogs.frame 5 1) (2 ∷ []) [] wire refl
+    let k : 2 ∷ [] ≡ 1 ∷ 2 ∷ [] = reached (mirror WrongLogs.plain WrongLogs.nodes WrongLogs.under_way) 60000 0 (WrongLogs.frame 5 1) (2 ∷ []) [] wire refl
     (h WrongLogs.under_way [] 60000 1 0 (WrongLogs.frame 5 1) (2 ∷ []) refl) in
     let l : 1 ≡ 2 = ap length k in omega (arith, l)
 

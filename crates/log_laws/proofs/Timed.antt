@@ -23,7 +23,7 @@ use Rattle.log_laws.specs.Moments.{Rising, ByMoment, MomentsNeverFall}
 use Rattle.log_laws.proofs.Lawful.{Agrees, follow}
 use Rattle.log_laws.proofs.Known.{Offered}
 use Rattle.log_laws.proofs.Moments.{IsAt}
-use Rattle.log_laws.proofs.Due.{Asked, due-or-asked, event-some}
+use Rattle.log_laws.proofs.Due.{own-finish, Asked, due-or-asked, event-some}
 use Rattle.log_laws.proofs.Prompt.{AllAt, comes-at, event-lines}
 use Rattle.log_laws.proofs.Played.{RunWorld, own-start, after-sound, opening-sound}
 use Rattle.log_laws.proofs.Followed.{all-pairs, event-goes, opening-agrees}
@@ -174,7 +174,7 @@ module _ (p : Scenario) where
           → Laters w.now (then_from [] (λ x. x.1 ++ head (machine p.stop) k x.0) (option_map (world_behind w) o))
       go None e on = tt
       go (Some d) e on =
-          let g = event-goes p w m d.moment d.what (own-start p w d e) h f a in
+          let g = event-goes p w m d.moment d.what (own-start p w d e) (own-finish p.stop w d e) h f a in
           let l = event-lines p w m d.moment d.what (own-start p w d e) h a in
           let there : fold moment_after w.now (event_step w d.moment d.what).1 ≡ d.moment =
           comes-at p.setup d.moment w.now (event_step w d.moment d.what).1 l.at (event-some p.stop w d e) in
@@ -194,7 +194,7 @@ module _ (p : Scenario) where
           → fold moment_after w.now (then_from [] (λ x. x.1 ++ head (machine p.stop) k x.0) (option_map (world_behind w) o)) ≡ (then_from w (λ x. behind (machine p.stop) k x.0) (option_map (world_behind w) o)).now
       go None e on = refl
       go (Some d) e on =
-          let g = event-goes p w m d.moment d.what (own-start p w d e) h f a in
+          let g = event-goes p w m d.moment d.what (own-start p w d e) (own-finish p.stop w d e) h f a in
           let l = event-lines p w m d.moment d.what (own-start p w d e) h a in
           fold-append moment_after w.now (event_step w d.moment d.what).1 (head (machine p.stop) k (world_behind w d).0)
           ∙ ap (λ n. fold moment_after n (head (machine p.stop) k (world_behind w d).0)) (comes-at p.setup d.moment w.now (event_step w d.moment d.what).1 l.at (event-some p.stop w d e))

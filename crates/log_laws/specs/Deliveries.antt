@@ -1,6 +1,7 @@
 -- Which nodes receive a frame, read off the lines before its end.
-use Rattle.std.specs.Prelude.{◌≡◌, ℕ, ◌&&◌, Bool, true, not, All, List, [], ◌∷◌, ◌++◌, filter, map, Option, Some, None}
+use Rattle.std.specs.Prelude.{◌≡◌, ℕ, ◌+◌, ◌*◌, unwrap_or, ◌&&◌, Bool, true, not, All, List, [], ◌∷◌, ◌++◌, filter, map, Option, Some, None}
 use Rattle.frame_specs.specs.Frame.{Frame}
+use Rattle.frame_specs.specs.Wire.{duration, time_of}
 use Rattle.bus_specs.specs.Bus.{Setup, among, is}
 use Rattle.bus_specs.specs.Waits.{is_meant}
 use Rattle.std.specs.List.{list_any}
@@ -33,19 +34,35 @@ pub record IsRunning (m : Mirror) (node : ℕ) (f : Frame) : Type 0 where
   pub sender : wire.sender ≡ node
   pub frame : wire.frame ≡ f
 
-pub record IsDelivery (m : Mirror) (node : ℕ) (f : Frame) (ns : List ℕ) (rest : List Line) : Type 0 where
+-- the ticks that a frame is on the wire, and those from its start up to the end of the error frame that follows this wire bit
+abbrev pub data_bit : Setup → ℕ
+data_bit s = unwrap_or s.data_bit_time s.nominal
+
+abbrev pub time_on_wire : Setup → Frame → ℕ
+time_on_wire s f = duration f s.nominal (data_bit s)
+
+abbrev pub time_to_error : Setup → Frame → ℕ → ℕ
+time_to_error s f bit = time_of f bit s.nominal (data_bit s) + 20 * s.nominal
+
+pub record IsDelivery (s : Setup) (m : Mirror) (t node : ℕ) (f : Frame) (ns : List ℕ) (rest : List Line) : Type 0 where
   pub runs : IsRunning m node f
+  pub ends : t ≡ runs.wire.since + time_on_wire s f
   pub waits : list_any (is_meant node f) m.waits ≡ true
   pub receivers : ns ≡ receivers m runs.wire (hurt_next rest)
   pub on : All (λ n. seen_is takes_part m.nodes n ≡ true) ns
 
--- Each frame that is delivered is the one on the wire, and waits. It reaches the nodes that listened at its start, are awake and
+-- Each frame that is delivered is the one on the wire, ends in its time, and waits. It reaches the nodes that listened at its start, are awake and
 -- weren't hurt, and none that is asleep or off.
 abbrev pub DeliveriesReachListeners : Setup → List ℕ → List Line → Type 0
 DeliveriesReachListeners s nodes lines = (before rest : List Line) (t bus node : ℕ) (f : Frame) (ns : List ℕ)
-    → lines ≡ before ++ On t bus node (Done f ns) ∷ rest → IsDelivery (mirror s nodes before) node f ns rest
+    → lines ≡ before ++ On t bus node (Done f ns) ∷ rest → IsDelivery s (mirror s nodes before) t node f ns rest
 
--- Each frame that fails is the one on the wire.
+pub record IsFailure (s : Setup) (m : Mirror) (t node : ℕ) (f : Frame) : Type 0 where
+  pub runs : IsRunning m node f
+  pub bit : ℕ
+  pub ends : t ≡ runs.wire.since + time_to_error s f bit
+
+-- Each frame that fails is the one on the wire, and an error frame follows one of its bits.
 abbrev pub FailuresAreOfTheFrame : Setup → List ℕ → List Line → Type 0
 FailuresAreOfTheFrame s nodes lines = (before rest : List Line) (t bus node kind by : ℕ) (f : Frame)
-    → lines ≡ before ++ On t bus node (Fail f kind by) ∷ rest → IsRunning (mirror s nodes before) node f
+    → lines ≡ before ++ On t bus node (Fail f kind by) ∷ rest → IsFailure s (mirror s nodes before) t node f

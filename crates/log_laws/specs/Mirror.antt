@@ -15,10 +15,11 @@ pub record Seen : Type 0 where
   pub discards : Bool
   pub level : Declared
 
--- the frame on the wire, and the nodes that listened at its start
+-- the frame on the wire, when it started, and the nodes that listened then
 pub record OnWire : Type 0 where
   pub sender : ℕ
   pub frame : Frame
+  pub since : ℕ
   pub listeners : List ℕ
 
 pub record Mirror : Type 0 where
@@ -77,11 +78,11 @@ last_sender_after node (Done f receivers) last = Some node
 last_sender_after node (Fail f kind by) last = Some node
 last_sender_after node other last = last
 
-abbrev pub running_after : List Seen → ℕ → Told → Option OnWire → Option OnWire
-running_after xs node (Start f) running = Some (record { sender = node; frame = f; listeners = listening xs node })
-running_after xs node (Done f receivers) running = None
-running_after xs node (Fail f kind by) running = None
-running_after xs node other running = running
+abbrev pub running_after : List Seen → ℕ → ℕ → Told → Option OnWire → Option OnWire
+running_after xs moment node (Start f) running = Some (record { sender = node; frame = f; since = moment; listeners = listening xs node })
+running_after xs moment node (Done f receivers) running = None
+running_after xs moment node (Fail f kind by) running = None
+running_after xs moment node other running = running
 
 abbrev pub mirror_told : Setup → Mirror → ℕ → ℕ → Told → Mirror
 mirror_told s m moment node told = record {
@@ -89,7 +90,7 @@ mirror_told s m moment node told = record {
   waits = heard node m.waits told;
   idle = idle_after s moment told m.idle;
   last_sender = last_sender_after node told m.last_sender;
-  running = running_after m.nodes node told m.running;
+  running = running_after m.nodes moment node told m.running;
 }
 
 -- a node that is down or over takes part no longer, and nothing of it waits
