@@ -19,4 +19,5 @@ pub mod Prompt
 pub mod Runs
 pub mod Endings
 pub mod Timed
+pub mod Left
 pub mod Played

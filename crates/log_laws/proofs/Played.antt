@@ -202,7 +202,7 @@ module _ (p : Scenario) where
     ahead = later_part-action_step w d.moment d.what h.ahead;
   }
 
-  behind-sound : (k : ℕ) (w : World) → RunWorld p w → RunWorld p (behind (machine p.stop) k w)
+  pub behind-sound : (k : ℕ) (w : World) → RunWorld p w → RunWorld p (behind (machine p.stop) k w)
   unfolding behind
   behind-sound zero w h = h
   behind-sound (suc k) w h = go (next_event p.stop w) refl (λ v i. behind-sound k v i)

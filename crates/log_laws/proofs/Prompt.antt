@@ -42,7 +42,7 @@ flat-nothing {X} {Y} f p (x ∷ xs) h = go (p x) refl (flat-nothing f p xs (λ y
     go false e k = k
 
 module _ (b : Bus) (m : Mirror) (since now : ℕ) (a : Agrees m b) (live : (x : Member) → Among b.members x → x.live ≡ true)
-    (d : next_due b since ≡ Some (at Start now)) where
+    (least : (x : Member) → Among b.members x → wants b x ≡ true → now ≤ max since (ready_moment b x)) where
   none-waits : (n : ℕ) → has_request b.requests n ≡ false → of_node m.waits n ≡ []
   none-waits n e = ap (λ ws. of_node ws n) a.waits ∙ filter-map (λ w. w.node == n) shown b.requests ∙ ap (map shown) (none b.requests e)
     where
@@ -66,17 +66,15 @@ module _ (b : Bus) (m : Mirror) (since now : ℕ) (a : Agrees m b) (live : (x : 
       go : (u : Bool) → has_request b.requests x.node ≡ u → of_node m.waits x.node ≡ []
       go false e = none-waits x.node e
       go true e =
-          let l : now ≤ max since (ready_moment b x) = start-least b since now d x k (and_from (bus.takes_part x) (has_request b.requests x.node) part e) in
+          let l : now ≤ max since (ready_moment b x) = least x k (and_from (bus.takes_part x) (has_request b.requests x.node) part e) in
           absurd (omega (arith, l, soon, from, before))
 
-  pub start-prompt : since ≤ now → IsPrompt b.setup m since now
-  start-prompt later = record {
-    later = later;
-    not_before = λ earlier from before. ap (λ xs. flat_map (λ (x : Seen). of_node m.waits x.node) (filter (able b.setup m earlier) xs)) a.nodes
-        ∙ flat-nothing (λ (x : Seen). of_node m.waits x.node) (able b.setup m earlier) (map seen b.members) (λ y k t.
+  -- before this moment no node is able that has something waiting
+  pub none-able : (earlier : ℕ) → since ≤ earlier → earlier < now → contenders b.setup m earlier ≡ []
+  none-able earlier from before = ap (λ xs. flat_map (λ (x : Seen). of_node m.waits x.node) (filter (able b.setup m earlier) xs)) a.nodes
+      ∙ flat-nothing (λ (x : Seen). of_node m.waits x.node) (able b.setup m earlier) (map seen b.members) (λ y k t.
         let r = map-among seen b.members y k in
-        ap (λ (z : Seen). of_node m.waits z.node) (sym r.2) ∙ nothing-before earlier from before r.0 r.1 (ap (able b.setup m earlier) r.2 ∙ t));
-  }
+        ap (λ (z : Seen). of_node m.waits z.node) (sym r.2) ∙ nothing-before earlier from before r.0 r.1 (ap (able b.setup m earlier) r.2 ∙ t))
 
 -- prompt starts along lines
 abbrev PromptTold : Setup → Mirror → ℕ → ℕ → Told → Type 0
@@ -155,7 +153,7 @@ module _ (p : Scenario) where
       go (Some r) =
           let rest = setup-of p w.bus h.bus now (map (λ x. On now w.bus.setup.number x.node (loser_told w.bus x)) (losers w.bus now r.node)) (losses-quiet w.bus now (losers w.bus now r.node)) in
           record {
-            prompts = (subst (λ s. IsPrompt s m w.now now) h.bus.setup (start-prompt w.bus m w.now now a h.bus.live d later),
+            prompts = (subst (λ s. IsPrompt s m w.now now) h.bus.setup (record { later = later; not_before = none-able w.bus m w.now now a h.bus.live (start-least w.bus w.now now d) }),
                 quiet-prompts p.setup now (map (λ x. On now w.bus.setup.number x.node (loser_told w.bus x)) (losers w.bus now r.node))
                 (mirror_after p.setup m (On now w.bus.setup.number r.node (log.Start r.frame))) now rest);
             at = ((refl, ap (λ (s : Setup). s.number) h.bus.setup), quiet-at p.setup now (map (λ x. On now w.bus.setup.number x.node (loser_told w.bus x)) (losers w.bus now r.node)) rest);

@@ -1,18 +1,20 @@
 -- The wrong logs break the laws.
-use Rattle.std.proofs.Common.{◌≡◌, ℕ, ◌≤◌, Bool, true, false, List, [], ◌∷◌, ◌++◌, All, length, Option, Some, arith, refl, sym, ap, ◌∙◌, subst, inl, inr}
+use Rattle.std.proofs.Common.{◌≡◌, ℕ, ◌+◌, ◌≤◌, Bool, true, false, List, [], ◌∷◌, ◌++◌, All, length, Option, Some, arith, refl, sym, ap, ◌∙◌, subst, inl, inr}
 use Rattle.std.proofs.lemmas.List.Elements.{All-head}
 use Rattle.std.proofs.lemmas.Bool.{both_ways}
 use Rattle.frame_specs.specs.Frame.{Frame}
 use Rattle.frame_specs.specs.Dominance.{beats}
+use Rattle.frame_specs.specs.Wire.{duration, stuffed, stuff}
 use Rattle.run_specs.specs.Order.{IsForemost}
 use Rattle.bus_specs.specs.Waits.{Waiting}
-use Rattle.log_specs.specs.Line.{Line, On, LostKept, LostGone, Discard, Done, Hurt}
+use Rattle.log_specs.specs.Line.{Line, On, LostKept, LostGone, Req, Discard, Done, Hurt}
 use Rattle.bus_sound.proofs.Lists.{each-All}
-use Rattle.log_laws.specs.Starts.{stronger, StartsAreForemost, StartersTakePart, StartsWhereFree}
+use Rattle.log_laws.specs.Starts.{stronger, StartsAreForemost, StartersTakePart, StartsWhereFree, StartsArePrompt}
 use Rattle.log_laws.specs.Mirror.{Mirror, OnWire, mirror}
-use Rattle.log_laws.specs.Deliveries.{DeliveriesReachListeners, IsDelivery, receivers, hurt_next}
+use Rattle.log_laws.specs.Deliveries.{DeliveriesReachListeners, IsDelivery, receivers, hurt_next, time_on_wire}
 use Rattle.log_laws.specs.Losers.{LosersAreTold, LossesStandBehindStarts}
 use Rattle.log_laws.specs.Queues.{RequestsFit}
+use Rattle.log_laws.specs.Moments.{MomentsNeverFall}
 use Rattle.log_laws.specs.WrongLogs
 
 at : ℕ → ℕ → ℕ → Waiting
@@ -56,7 +58,7 @@ pub sleeping-sender-refused : StartersTakePart WrongLogs.plain WrongLogs.nodes W
 sleeping-sender-refused h = let k : false ≡ true = h WrongLogs.asleep [] 0 1 0 (WrongLogs.frame 5 1) refl in absurd cc
 
 pub early-refused : StartsWhereFree WrongLogs.plain WrongLogs.nodes WrongLogs.early_start → ⊥
-early-refused h = let k : 63000 ≤ 62000 = (h WrongLogs.ended [] 62000 1 1 (WrongLogs.frame 6 1) refl).idle in omega (arith, k)
+early-refused h = let k : 59000 ≤ 58000 = (h WrongLogs.ended [] 58000 1 1 (WrongLogs.frame 6 1) refl).idle in omega (arith, k)
 
 -- whom a delivery reaches, where the frame on the wire is known
 reached : (m : Mirror) (t node : ℕ) (f : Frame) (ns : List ℕ) (rest : List Line) (w : OnWire) → m.running ≡ Some w → IsDelivery WrongLogs.plain m t node f ns rest
@@ -72,22 +74,22 @@ wire = record { sender = 0; frame = WrongLogs.frame 5 1; since = 0; listeners = 
 pub sleeping-receiver-refused : DeliveriesReachListeners WrongLogs.plain WrongLogs.nodes WrongLogs.sleeping_receiver → ⊥
 unfolding wire
 sleeping-receiver-refused h =
-    let k : 1 ∷ 2 ∷ [] ≡ 2 ∷ [] = reached (mirror WrongLogs.plain WrongLogs.nodes WrongLogs.one_sleeps) 60000 0 (WrongLogs.frame 5 1) (1 ∷ 2 ∷ []) [] wire refl
-    (h WrongLogs.one_sleeps [] 60000 1 0 (WrongLogs.frame 5 1) (1 ∷ 2 ∷ []) refl) in
+    let k : 1 ∷ 2 ∷ [] ≡ 2 ∷ [] = reached (mirror WrongLogs.plain WrongLogs.nodes WrongLogs.one_sleeps) 56000 0 (WrongLogs.frame 5 1) (1 ∷ 2 ∷ []) [] wire refl
+    (h WrongLogs.one_sleeps [] 56000 1 0 (WrongLogs.frame 5 1) (1 ∷ 2 ∷ []) refl) in
     let l : 2 ≡ 1 = ap length k in omega (arith, l)
 
 pub hurt-receiver-refused : DeliveriesReachListeners WrongLogs.plain WrongLogs.nodes WrongLogs.hurt_receiver → ⊥
 unfolding wire
 hurt-receiver-refused h =
-    let k : 1 ∷ 2 ∷ [] ≡ 2 ∷ [] = reached (mirror WrongLogs.plain WrongLogs.nodes WrongLogs.under_way) 60000 0 (WrongLogs.frame 5 1) (1 ∷ 2 ∷ []) (WrongLogs.on 60000 1 (Hurt 2) ∷ []) wire refl
-    (h WrongLogs.under_way (WrongLogs.on 60000 1 (Hurt 2) ∷ []) 60000 1 0 (WrongLogs.frame 5 1) (1 ∷ 2 ∷ []) refl) in
+    let k : 1 ∷ 2 ∷ [] ≡ 2 ∷ [] = reached (mirror WrongLogs.plain WrongLogs.nodes WrongLogs.under_way) 56000 0 (WrongLogs.frame 5 1) (1 ∷ 2 ∷ []) (WrongLogs.on 56000 1 (Hurt 2) ∷ []) wire refl
+    (h WrongLogs.under_way (WrongLogs.on 56000 1 (Hurt 2) ∷ []) 56000 1 0 (WrongLogs.frame 5 1) (1 ∷ 2 ∷ []) refl) in
     let l : 2 ≡ 1 = ap length k in omega (arith, l)
 
 pub missed-receiver-refused : DeliveriesReachListeners WrongLogs.plain WrongLogs.nodes WrongLogs.missed_receiver → ⊥
 unfolding wire
 missed-receiver-refused h =
-    let k : 2 ∷ [] ≡ 1 ∷ 2 ∷ [] = reached (mirror WrongLogs.plain WrongLogs.nodes WrongLogs.under_way) 60000 0 (WrongLogs.frame 5 1) (2 ∷ []) [] wire refl
-    (h WrongLogs.under_way [] 60000 1 0 (WrongLogs.frame 5 1) (2 ∷ []) refl) in
+    let k : 2 ∷ [] ≡ 1 ∷ 2 ∷ [] = reached (mirror WrongLogs.plain WrongLogs.nodes WrongLogs.under_way) 56000 0 (WrongLogs.frame 5 1) (2 ∷ []) [] wire refl
+    (h WrongLogs.under_way [] 56000 1 0 (WrongLogs.frame 5 1) (2 ∷ []) refl) in
     let l : 1 ≡ 2 = ap length k in omega (arith, l)
 
 pub delivered-twice-refused : DeliveriesReachListeners WrongLogs.plain WrongLogs.nodes WrongLogs.delivered_twice → ⊥
@@ -96,7 +98,7 @@ delivered-twice-refused h = let k : false ≡ true = (h WrongLogs.delivered_once
 pub silent-loser-refused : LosersAreTold WrongLogs.plain WrongLogs.nodes WrongLogs.silent_loser → ⊥
 silent-loser-refused h =
     let k : [] ≡ WrongLogs.on 0 0 (LostKept (WrongLogs.frame 5 1)) ∷ [] =
-    h WrongLogs.two_wait (WrongLogs.on 60000 1 (Done (WrongLogs.frame 3 2) (0 ∷ 2 ∷ [])) ∷ []) 0 1 1 (WrongLogs.frame 3 2) refl in absurd cc
+    h WrongLogs.two_wait (WrongLogs.on 56000 1 (Done (WrongLogs.frame 3 2) (0 ∷ 2 ∷ [])) ∷ []) 0 1 1 (WrongLogs.frame 3 2) refl in absurd cc
 
 pub kept-for-discard-refused : LosersAreTold WrongLogs.plain WrongLogs.nodes WrongLogs.kept_for_discard → ⊥
 kept-for-discard-refused h =
@@ -112,3 +114,21 @@ accepted-off-refused h = let k : true ≡ false = (h.accepted WrongLogs.node_0_o
 
 pub full-too-soon-refused : RequestsFit WrongLogs.plain WrongLogs.nodes WrongLogs.full_too_soon → ⊥
 full-too-soon-refused h = let k : 1 ≡ 256 = (h.full WrongLogs.one_waits [] 0 1 0 (WrongLogs.frame 6 1) refl).full in omega (arith, k)
+
+pub late-end-refused : DeliveriesReachListeners WrongLogs.plain WrongLogs.nodes WrongLogs.late_end → ⊥
+unfolding duration stuffed stuff wire
+late-end-refused h =
+    let d = h WrongLogs.under_way [] 57000 1 0 (WrongLogs.frame 5 1) (1 ∷ 2 ∷ []) refl in
+    let s : wire ≡ (d.runs).wire = some d.runs.running in
+    let k : 57000 ≡ 56000 = d.ends ∙ ap (λ (w : OnWire). w.since + time_on_wire WrongLogs.plain (WrongLogs.frame 5 1)) (sym s) in omega (arith, k)
+  where
+    some : {x y : OnWire} → Some x ≡ Some y → x ≡ y
+    some p = cc
+
+pub late-start-refused : StartsArePrompt WrongLogs.plain WrongLogs.nodes WrongLogs.late_start → ⊥
+late-start-refused h =
+    let k : ◌≡◌ {A = List Waiting} (record { node = 0; frame = WrongLogs.frame 5 1 } ∷ []) [] = (h WrongLogs.one_waits [] 1000 1 0 (WrongLogs.frame 5 1) refl).not_before 0 (omega arith) (omega arith) in
+    absurd cc
+
+pub falling-moment-refused : MomentsNeverFall WrongLogs.falling_moment → ⊥
+falling-moment-refused h = let k : 1000 ≤ 0 = h WrongLogs.one_later [] 0 1 1 (Req (WrongLogs.frame 6 1)) refl in omega (arith, k)

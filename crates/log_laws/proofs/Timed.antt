@@ -33,7 +33,7 @@ record Before (w : World) (d : Due) : Type 0 where
   due : IfSome (next_due w.bus w.now) (λ c. d.moment ≤ c.moment)
   asked : Rising w.now w.ahead → Rising d.moment w.ahead
 
-no-later : (x c : Due) → precedes x c ≡ true → x.moment ≤ c.moment
+pub no-later : (x c : Due) → precedes x c ≡ true → x.moment ≤ c.moment
 no-later x c h = go (or_cases (nat_lt x.moment c.moment) ((x.moment == c.moment) && nat_lt (rank x.what) (rank c.what)) h)
   where
     go : (nat_lt x.moment c.moment ≡ true) ⊎ (((x.moment == c.moment) && nat_lt (rank x.what) (rank c.what)) ≡ true) → x.moment ≤ c.moment

@@ -1,8 +1,10 @@
 -- When the lines of a log are, and how it ends.
-use Rattle.std.specs.Prelude.{◌≡◌, ◌≤◌, ℕ, ◌+◌, Bool, true, false, All, List, [], ◌∷◌, ◌++◌, ⊤}
+use Rattle.std.specs.Prelude.{◌≡◌, ◌≤◌, ◌<◌, ◌⊎◌, ℕ, ◌+◌, Some, None, Bool, true, false, All, List, [], ◌∷◌, ◌++◌, ⊤}
 use Rattle.log_specs.specs.Line.{Line, On, Down, Over, End, Told}
 use Rattle.play_specs.specs.Scenario.{Action, Scenario, scenario_lines, scenario_status}
-use Rattle.log_laws.specs.Starts.{last_moment}
+use Rattle.log_laws.specs.Mirror.{OnWire, mirror}
+use Rattle.log_laws.specs.Starts.{last_moment, contenders}
+use Rattle.log_laws.specs.Deliveries.{time_on_wire, time_to_error}
 
 -- from this moment on, none is earlier than one before it
 abbrev pub Rising : ℕ → List Action → Type 0
@@ -47,3 +49,11 @@ pub record GoesOn (budget more : ℕ) (p : Scenario) : Type 0 where
   pub smaller : scenario_lines budget p ≡ body ++ End (scenario_status budget p) events ∷ []
   pub larger : scenario_lines (budget + more) p ≡ body ++ rest
   pub nothing : scenario_status budget p ≡ 0 → scenario_lines (budget + more) p ≡ scenario_lines budget p
+
+-- Where a run ends with status 0: no frame is on the wire, and nothing that waits could start up to the stop; or the frame on the wire
+-- ends after the stop.
+pub record NothingIsLeft (p : Scenario) (lines : List Line) : Type 0 where
+  pub idle : (before : List Line) (events : ℕ) → lines ≡ before ++ End 0 events ∷ [] → (mirror p.setup p.nodes before).running ≡ None
+      → (moment : ℕ) → last_moment before ≤ moment → moment ≤ p.stop → contenders p.setup (mirror p.setup p.nodes before) moment ≡ []
+  pub busy : (before : List Line) (events : ℕ) (w : OnWire) → lines ≡ before ++ End 0 events ∷ [] → (mirror p.setup p.nodes before).running ≡ Some w
+      → (p.stop < w.since + time_on_wire p.setup w.frame) ⊎ ((bit : ℕ) × (p.stop < w.since + time_to_error p.setup w.frame bit))

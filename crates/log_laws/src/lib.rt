@@ -95,4 +95,7 @@ pub fn wrong_logs_are_refused()
     ensures loser_of_nothing { LossesStandBehindStarts wrong.loser_of_nothing → ⊥ }
     ensures accepted_off { RequestsFit wrong.plain wrong.nodes wrong.accepted_off → ⊥ }
     ensures full_too_soon { RequestsFit wrong.plain wrong.nodes wrong.full_too_soon → ⊥ }
+    ensures late_end { DeliveriesReachListeners wrong.plain wrong.nodes wrong.late_end → ⊥ }
+    ensures late_start { StartsArePrompt wrong.plain wrong.nodes wrong.late_start → ⊥ }
+    ensures falling_moment { MomentsNeverFall wrong.falling_moment → ⊥ }
 {}

@@ -1,4 +1,4 @@
-use Rattle.log_laws.proofs.Refused.{latest-refused, beaten-refused, higher-refused, sleeping-sender-refused, early-refused, sleeping-receiver-refused, hurt-receiver-refused, missed-receiver-refused, delivered-twice-refused, silent-loser-refused, kept-for-discard-refused, loser-of-nothing-refused, accepted-off-refused, full-too-soon-refused}
+use Rattle.log_laws.proofs.Refused.{latest-refused, beaten-refused, higher-refused, sleeping-sender-refused, early-refused, sleeping-receiver-refused, hurt-receiver-refused, missed-receiver-refused, delivered-twice-refused, silent-loser-refused, kept-for-discard-refused, loser-of-nothing-refused, accepted-off-refused, full-too-soon-refused, late-end-refused, late-start-refused, falling-moment-refused}
 use Rattle.log_laws.proofs.wrong_logs_are_refused.Goals as goal
 
 pub returns-clause-latest_of_equals : goal.returns-clause-latest_of_equals
@@ -42,3 +42,12 @@ returns-clause-accepted_off c = accepted-off-refused
 
 pub returns-clause-full_too_soon : goal.returns-clause-full_too_soon
 returns-clause-full_too_soon c = full-too-soon-refused
+
+pub returns-clause-late_end : goal.returns-clause-late_end
+returns-clause-late_end c = late-end-refused
+
+pub returns-clause-late_start : goal.returns-clause-late_start
+returns-clause-late_start c = late-start-refused
+
+pub returns-clause-falling_moment : goal.returns-clause-falling_moment
+returns-clause-falling_moment c = falling-moment-refused
