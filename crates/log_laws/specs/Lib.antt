@@ -1,0 +1,9 @@
+pub mod Scenarios
+pub mod Mirror
+pub mod Starts
+pub mod Deliveries
+pub mod Losers
+pub mod Queues
+pub mod Accounts
+pub mod Moments
+pub mod WrongLogs
