@@ -2,7 +2,7 @@
 use Rattle.std.proofs.Common.{◌≡◌, ℕ, ◌+◌, ◌==◌, Bool, true, false, List, [], ◌∷◌, length, Option, Some, None, ◌≤◌, refl, sym, ap, subst, ◌∙◌, arith}
 use Rattle.std.specs.Prelude.{option_map, MatchOption, if◌then◌else◌}
 use Rattle.frame_specs.specs.FrameReading.{cut}
-use Rattle.play_specs.specs.Text.{parts, with_front}
+use Rattle.play_file.specs.PlainText.{parts, with_front}
 use Rattle.play_file.specs.Parts.{IsCut, IsOther}
 
 -- what a cut says of the parts

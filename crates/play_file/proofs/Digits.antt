@@ -2,7 +2,7 @@
 use Rattle.std.proofs.Common.{◌≡◌, ◌<◌, ℕ, suc, ◌+◌, ◌-◌, ◌*◌, true, false, List, [], ◌∷◌, length, get_or, drop, None, refl, ap, ◌∙◌, arith, drop-cons}
 use Rattle.std.specs.Prelude.{option_and_then, if◌then◌else◌}
 use Rattle.std.proofs.lemmas.Bool.Decides.{nat_tests}
-use Rattle.play_specs.specs.Text.{digits_value, is_digit, within}
+use Rattle.play_file.specs.PlainText.{digits_value, is_digit, within}
 
 not_within : (low high n : ℕ) → high < n → within low high n ≡ None
 not_within low high n over = grind (arith, nat_tests)

@@ -5,7 +5,7 @@ use Rattle.std.proofs.lemmas.Bool.Decides.{nat_tests}
 use Rattle.std.proofs.lemmas.List.{append-nil, length-map}
 use Rattle.std.proofs.lemmas.List.Elements.{All-cons, All-nil}
 use Rattle.frame_specs.specs.Frame.{Frame, Data, is_well_formed}
-use Rattle.play_specs.specs.Text.{words_of}
+use Rattle.play_file.specs.PlainText.{words_of}
 use Rattle.play_specs.specs.Play.{Play, PlayAction, Verb, Send, Wake, Sleep, Keep, Discard, IsAction, IsPlay}
 use Rattle.play_specs.specs.PlayText.{text_lines, ended, play_text}
 use Rattle.play_specs.specs.PlayReading.{Begins, IsFirstBadLine, IsReadAs, IsExact}

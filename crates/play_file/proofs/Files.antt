@@ -5,7 +5,7 @@ use Rattle.std.proofs.lemmas.Bool.Decides.{nat_tests}
 use Rattle.std.proofs.lemmas.List.{append-nil}
 use Rattle.std.proofs.lemmas.List.Concat.{flat_map-cons}
 use Rattle.log_specs.specs.Line.{joined}
-use Rattle.play_specs.specs.Text.{parts, words_of}
+use Rattle.play_file.specs.PlainText.{parts, words_of}
 use Rattle.play_specs.specs.Play.{Play}
 use Rattle.play_specs.specs.PlayText.{text_lines, ended, play_text}
 use Rattle.play_specs.specs.PlayReading.{Begins, IsFirstBadLine, IsReadAs}

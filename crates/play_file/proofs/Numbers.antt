@@ -3,7 +3,7 @@ use Rattle.std.proofs.Common.{◌≡◌, ◌≢◌, ◌≤◌, ◌<◌, ℕ, ◌
 use Rattle.std.specs.Prelude.{if◌then◌else◌, nat_le, decimal, option_and_then}
 use Rattle.std.proofs.lemmas.Bool.Decides.{nat_tests}
 use Rattle.std.proofs.lemmas.Fmt.{decimal_by_steps, decimal_step, decimal_digit}
-use Rattle.play_specs.specs.Text.{is_digit, digits_value, number_of, within, number_in}
+use Rattle.play_file.specs.PlainText.{is_digit, digits_value, number_of, within, number_in}
 use Rattle.play_specs.specs.Play.{Between}
 use Rattle.play_file.proofs.Options.{bind_some}
 

@@ -10,7 +10,7 @@ use Rattle.frame_specs.specs.Frame.{Frame, is_fd}
 use Rattle.frame_specs.specs.FrameReading.{frame_of, Spells}
 use Rattle.frame_specs.proofs.FrameReadingLaws.{spells_from_frame_of}
 use Rattle.bus_specs.specs.Bus.{ErrorEntry}
-use Rattle.play_specs.specs.Text.{number_in, words_of}
+use Rattle.play_file.specs.PlainText.{number_in, words_of}
 use Rattle.play_specs.specs.Play.{Play, PlayAction, Verb, Send, Wake, Sleep, Keep, Discard, Between, IsRate, IsEntry, IsVerb, IsAction, Rises, IsPlay}
 use Rattle.play_specs.specs.PlayText.{spaced, header_words, by_text, error_words, verb_words, action_words, text_lines}
 use Rattle.play_file.specs.Walk.{rate_or_none, fd_divides, if_divides, header_in, header_of, with_entry, with_action, no_action, takes_entry, by_of, entry_in, last_of, bare_verb, sendable, sent, action_in, then_action, then_entry, with_words, step}
@@ -298,7 +298,7 @@ action_read p q lines moment node verb words reads is found =
     let x : PlayAction = record { moment = a.0; node = b.0; verb = v.0 } in
     let same : with_action p x ≡ q = let h : Some x ≡ Some made.0 = v.2 in let e : x ≡ made.0 = cc in ap (with_action p) e ∙ made.2 in
     let P : Play → Type 0 = λ y. Reads y (lines ++ spaced (moment ∷ node ∷ words) ∷ []) in
-    subst P same (with_action-Reads p x lines (moment ∷ node ∷ words) reads (record { moment = na.range.1; node = omega (arith, nb.range.1, reads.play.nodes.0); verb = vb.verb }) na.range.0
+    subst P {x = with_action p x} same (with_action-Reads p x lines (moment ∷ node ∷ words) reads (record { moment = na.range.1; node = omega (arith, nb.range.1, reads.play.nodes.0); verb = vb.verb }) na.range.0
     (cc (na.written, nb.written, vb.written)))
 
 words_read : (p q : Play) (lines : List (List ℕ)) (words : List (List ℕ)) → Reads p lines → with_words p words ≡ Some q → Reads q (lines ++ spaced words ∷ [])

@@ -2,7 +2,7 @@
 use Rattle.std.proofs.Common.{◌≡◌, ◌≤◌, ℕ, ◌+◌, List, [], ◌∷◌, ◌++◌, length, Option, Result, Ok, Err, refl, sym, ap, subst, ◌∙◌, arith, length-append}
 use Rattle.std.specs.Prelude.{map, IfOk, IfErr}
 use Rattle.std.proofs.lemmas.List.{length-map}
-use Rattle.play_specs.specs.Text.{parts, words_of}
+use Rattle.play_file.specs.PlainText.{parts, words_of}
 use Rattle.play_specs.specs.Play.{Play}
 use Rattle.play_specs.specs.PlayText.{text_lines, ended}
 use Rattle.play_specs.specs.PlayReading.{IsFirstBadLine, IsReadAs}

@@ -7,7 +7,7 @@ use Rattle.std.proofs.lemmas.Fmt.{decimal_by_steps}
 use Rattle.frame_specs.specs.Frame.{Frame, Kind, Data, Remote, Fd}
 use Rattle.frame_specs.specs.FrameText.{hex_digit, hex, hex_bytes, identifier_text, flag, data_text, frame_text}
 use Rattle.log_specs.specs.Line.{joined}
-use Rattle.play_specs.specs.Text.{parts, with_front}
+use Rattle.play_file.specs.PlainText.{parts, with_front}
 
 -- ---- parts
 

@@ -9,7 +9,7 @@ use Rattle.frame_specs.specs.Frame.{Frame, is_fd}
 use Rattle.frame_specs.specs.FrameText.{frame_text}
 use Rattle.frame_specs.proofs.FrameReadingLaws.{frame_of_from_spells}
 use Rattle.bus_specs.specs.Bus.{ErrorEntry}
-use Rattle.play_specs.specs.Text.{number_in, number_of, words_of}
+use Rattle.play_file.specs.PlainText.{number_in, number_of, words_of}
 use Rattle.play_specs.specs.Play.{Play, PlayAction, Verb, Send, Wake, Sleep, Keep, Discard, Between, IsRate, IsEntry, IsSendable, IsAction, Rises, IsPlay}
 use Rattle.play_specs.specs.PlayText.{spaced, header_words, by_text, error_words, verb_words, action_words, text_lines}
 use Rattle.play_file.specs.Walk.{rate_or_none, fd_divides, if_divides, header_in, header_of, with_entry, with_action, by_of, entry_in, last_of, sendable, sent, action_in, then_action, with_words, step, steps, play_of_lines}

@@ -1,3 +1,4 @@
+pub mod PlainText
 pub mod Parts
 pub mod Walk
 pub mod Verbs

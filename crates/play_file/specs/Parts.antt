@@ -1,6 +1,6 @@
 -- Texts cut at a separator, and the words of a line. No public clause cites this module.
 use Rattle.std.specs.Prelude.{◌≡◌, ◌≢◌, ℕ, ◌+◌, List, [], ◌∷◌, length}
-use Rattle.play_specs.specs.Text.{parts}
+use Rattle.play_file.specs.PlainText.{parts}
 use Rattle.play_file.specs.declared.text.Words.{Words}
 use Rattle.play_file.specs.declared.text.Words.TheVariants.{Three, Four, Six, Other}
 

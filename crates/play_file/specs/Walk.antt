@@ -3,7 +3,7 @@ use Rattle.std.specs.Prelude.{ℕ, ◌+◌, ◌-◌, ◌^◌, ◌%◌, ◌==◌,
 use Rattle.frame_specs.specs.Frame.{Frame, is_fd}
 use Rattle.frame_specs.specs.FrameReading.{frame_of}
 use Rattle.bus_specs.specs.Bus.{ErrorEntry}
-use Rattle.play_specs.specs.Text.{parts, words_of, number_in}
+use Rattle.play_file.specs.PlainText.{parts, words_of, number_in}
 use Rattle.play_specs.specs.Play.{Play, PlayAction, Verb, Send, Wake, Sleep, Keep, Discard}
 
 infixl 10 ◌>>=◌

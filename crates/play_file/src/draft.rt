@@ -2,7 +2,7 @@
 ghost use Rattle.std.specs.Prelude.{◌≡◌, ◌≤◌, ◌-◌, ◌∷◌, [], if◌then◌else◌, Some, None, IfOk, OnOk, OnErr, option_map, is_some as is_some_of};
 ghost use Rattle.frame_specs.specs.Frame.{is_fd as is_fd_of};
 ghost use Rattle.can_frame.specs.Kinds.{kind_of};
-ghost use Rattle.play_specs.specs.Text.{words_of};
+ghost use Rattle.play_file.specs.PlainText.{words_of};
 ghost use Rattle.play_specs.specs.Play.{IsPlay};
 ghost use Rattle.play_file.specs.Walk as walk;
 ghost use Rattle.play_file.specs.Verbs.{verb_of};

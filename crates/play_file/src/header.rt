@@ -1,6 +1,6 @@
 //! The header of a play file.
 ghost use Rattle.std.specs.Prelude.{◌≡◌, ◌≤◌, ◌^◌, ◌/◌, ◌==◌, Some, None, if◌then◌else◌};
-ghost use Rattle.play_specs.specs.Text.{words_of};
+ghost use Rattle.play_file.specs.PlainText.{words_of};
 ghost use Rattle.play_file.specs.Walk.{header_of, header_in as header_in_of};
 
 use crate::draft::{Draft, LATEST};

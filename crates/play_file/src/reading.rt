@@ -1,6 +1,6 @@
 //! Reading a play file, line by line.
 ghost use Rattle.std.specs.Prelude.{◌≡◌, ◌≤◌, ◌<◌, ◌^◌, ◌+◌, ℕ, Ok, Err, IfOk, IfErr, length};
-ghost use Rattle.play_specs.specs.Text.{parts};
+ghost use Rattle.play_file.specs.PlainText.{parts};
 ghost use Rattle.play_specs.specs.Play.{Play as play, IsPlay};
 ghost use Rattle.play_specs.specs.PlayText.{play_text};
 ghost use Rattle.play_specs.specs.PlayReading.{IsFirstBadLine, IsReadAs};

@@ -1,7 +1,7 @@
 //! Parts, words and numbers of a text.
 ghost use Rattle.std.specs.Prelude.{◌≡◌, ◌<◌, ◌≤◌, ◌^◌, IfSome, MatchOption, IsTrue, ◌∷◌, [], option_and_then, option_map, bytes_eq};
 ghost use Rattle.frame_specs.specs.FrameReading.{cut as cut_of};
-ghost use Rattle.play_specs.specs.Text.{parts, words_of, number_in as number_in_of, within, digits_value};
+ghost use Rattle.play_file.specs.PlainText.{parts, words_of, number_in as number_in_of, within, digits_value};
 ghost use Rattle.play_file.specs.Parts.{IsCut, AreWords};
 
 /// The words of a line, where it has as many as a line can have.
@@ -66,7 +66,7 @@ pub(crate) fn is_word(text: &[u8], word: &[u8]) -> bool
 
 /// The decimal number that this text spells with no sign and no leading zero; None where it
 /// spells none from `low` to `high`.
-#[tactic(auto, unfolding(play_specs::specs::Text::number_in, play_specs::specs::Text::number_of))]
+#[tactic(auto, unfolding(crate::specs::PlainText::number_in, crate::specs::PlainText::number_of))]
 pub(crate) fn number_in(low: u64, high: u64, text: &[u8]) -> Option<u64>
     ensures value { result ≡ number_in_of low high text.now }
     ensures low { IfSome result (λ n. low ≤ n) }

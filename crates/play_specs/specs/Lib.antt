@@ -1,4 +1,3 @@
-pub mod Text
 pub mod Scenario
 pub mod Play
 pub mod PlayText

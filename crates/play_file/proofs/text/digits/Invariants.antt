@@ -1,6 +1,6 @@
 use Rattle.std.proofs.Common.{◌≡◌, ◌≤◌, drop}
 use Rattle.std.specs.Prelude.{option_and_then}
-use Rattle.play_specs.specs.Text.{digits_value, within}
+use Rattle.play_file.specs.PlainText.{digits_value, within}
 use Rattle.play_file.proofs.text.digits.Given as goal
 
 -- The number so far and the digits that are left are the whole.

@@ -1,4 +1,4 @@
-use Rattle.play_specs.specs.Text.{parts, words_of}
+use Rattle.play_file.specs.PlainText.{parts, words_of}
 use Rattle.play_file.proofs.Cuts.{too_many, some_part}
 use Rattle.play_file.proofs.text.words_in.Goals as goal
 

@@ -1,4 +1,4 @@
--- Lines, words and numbers of a text.
+-- Reading lines, words and numbers of a text. No public clause cites this module.
 use Rattle.std.specs.Prelude.{ℕ, ◌+◌, ◌-◌, ◌*◌, ◌==◌, ◌&&◌, Bool, List, [], ◌∷◌, Option, Some, None, option_and_then, if◌then◌else◌, nat_le}
 
 -- one more byte in front of the first part
