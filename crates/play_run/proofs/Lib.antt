@@ -5,3 +5,4 @@ pub mod Prefixing
 pub mod Writes
 pub mod Lasting
 pub mod Submitting
+pub mod Scripting
