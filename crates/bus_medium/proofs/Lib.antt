@@ -1,3 +1,4 @@
+pub mod Ending
 pub mod FirstDue
 pub mod Folding
 pub mod Looking

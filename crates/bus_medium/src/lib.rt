@@ -3,6 +3,7 @@
 #![tactic(auto)]
 
 mod due;
+mod finishing;
 mod lookup;
 mod mail;
 mod medium;
