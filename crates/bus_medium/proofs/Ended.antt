@@ -1,10 +1,10 @@
 -- The bus behind the end of a frame, put together from its parts.
-use Rattle.std.proofs.Common.{◌≡◌, ℕ, ◌<◌, ◌≤◌, ◌+◌, ◌*◌, ◌^◌, ◌==◌, ◌⊎◌, Bool, if◌then◌else◌, not, List, [], ◌∷◌, ◌++◌, length, map, filter, flat_map, take, drop, Option, Some, None, arith, refl, sym, ap, ◌∙◌, subst, inl, inr}
+use Rattle.std.proofs.Common.{◌≡◌, ℕ, ◌≤◌, ◌+◌, ◌*◌, ◌^◌, ◌==◌, ◌⊎◌, Bool, if◌then◌else◌, not, List, ◌∷◌, ◌++◌, length, map, filter, flat_map, take, drop, Option, Some, None, arith, refl, sym, ap, ◌∙◌, subst, inl, inr}
 use Rattle.std.specs.Prelude.{◌&&◌, option_map, max}
 use Rattle.std.proofs.lemmas.List.{take_at, length-map}
 use Rattle.bus_specs.specs.Bus.{Bus, Member, Request, Running, Fault, Hurt, bits, off, member_is, wants, ready_moment, with_member}
 use Rattle.bus_specs.specs.Due.{Due, Finish, Notices, Start, Return, rank, precedes, at, notices, returns, starts, dues, next_due, notice_moments}
-use Rattle.bus_specs.specs.Finish.{is_sent, member_after_finish, member_after_return, counters_after, bus_after_finish, finish_with, finish, recover, return_moment, receivers, outcome_line, hurt_lines}
+use Rattle.bus_specs.specs.Finish.{is_sent, member_after_finish, member_after_return, counters_after, finish_with, finish, recover, return_moment, receivers, outcome_line, hurt_lines}
 use Rattle.log_specs.specs.Line.{Line}
 use Rattle.bus_sound.proofs.Among.{Among, filter_map-among}
 use Rattle.bus_sound.proofs.Lists.{map-among, append-among}
@@ -96,7 +96,7 @@ finish-log b inside now r ms heard changes view runs same receive change =
     ∙ ap (λ x. x ∷ hurt_line now n r.hurt ++ changes) (outcome-is inside now r r.fault)
     ∙ ap (λ x. outcome_line inside now r r.fault ∷ x ++ changes) (hurt-is inside now r.hurt)
     ∙ ap (λ x. outcome_line inside now r r.fault ∷ hurt_lines inside now r.hurt ++ x)
-        (change ∙ ap (flat_map (λ m. state_line now n (counters_after r m) m)) same)
+    (change ∙ ap (flat_map (λ m. state_line now n (counters_after r m) m)) same)
     ∙ ap (λ o. (finish_with inside now o).1) (sym runs)
     ∙ ap (λ (v : Bus). (finish_with v now v.running).1) view
 

@@ -1,11 +1,11 @@
 -- The end of a frame: who receives it, what each member becomes, and what it tells.
-use Rattle.std.proofs.Common.{◌≡◌, ℕ, zero, suc, ◌<◌, ◌≤◌, ◌+◌, ◌-◌, ◌==◌, Bool, true, false, cond, not, if◌then◌else◌, List, [], ◌∷◌, ◌++◌, length, map, filter, flat_map, take, drop, set, get_or, All, Option, Some, None, IfSome, arith, refl, sym, ap, ◌∙◌, subst}
+use Rattle.std.proofs.Common.{◌≡◌, ℕ, zero, suc, ◌<◌, ◌≤◌, ◌+◌, ◌-◌, ◌==◌, Bool, true, false, cond, if◌then◌else◌, List, [], ◌∷◌, ◌++◌, length, map, filter, flat_map, take, drop, set, get_or, Option, Some, None, arith, refl, sym, ap, ◌∙◌, subst}
 use Rattle.std.specs.Prelude.{◌&&◌}
 use Rattle.std.specs.Option.{option_or}
-use Rattle.std.proofs.lemmas.Bool.{both_ways, false_from_ne_true, eqb-true}
+use Rattle.std.proofs.lemmas.Bool.{eqb-true}
 use Rattle.bus_specs.specs.Bus.{Member, Mail, Running, Hurt, among}
-use Rattle.bus_specs.specs.Finish.{Part, Sending, Listening, Apart, Hurting, part, hurt_part, mail, mail_after, member_after_finish}
-use Rattle.bus_medium.specs.Finishing.{IsCounted, After, after, mail_of_live, with_after, with_afters, receiver}
+use Rattle.bus_specs.specs.Finish.{Sending, Listening, Apart, Hurting, part, hurt_part, mail, mail_after, member_after_finish}
+use Rattle.bus_medium.specs.Finishing.{After, after, with_after, with_afters, receiver}
 
 not-hurt : (o : Option Hurt) (n : ℕ) → hurt_part o n ≡ Listening → ⊥
 not-hurt None n e = cc

@@ -1,4 +1,4 @@
-use Rattle.std.proofs.Common.{rules, arith, ◌≡◌, ◌+◌, ◌-◌, Some, length, vec_len, get_or, sym}
+use Rattle.std.proofs.Common.{rules, arith, ◌≡◌, ◌+◌, ◌-◌, Some, vec_len, get_or, sym}
 use Rattle.bus_medium.proofs.Ending.{apply-step, left-step}
 use Rattle.bus_medium.proofs.finishing.apply.Goals as goal
 

@@ -1,4 +1,4 @@
-use Rattle.std.proofs.Common.{◌≡◌, ◌∙◌, ◌++◌, List, length, map, flat_map, take, drop, ap, sym, subst, Some, None, arith, ◌*◌}
+use Rattle.std.proofs.Common.{◌≡◌, ◌∙◌, ◌++◌, length, map, flat_map, take, drop, ap, sym, subst, Some, None, arith, ◌*◌}
 use Rattle.bus_log.specs.Lines.{line_of}
 use Rattle.bus_specs.specs.Bus.{Bus, Running}
 use Rattle.bus_specs.specs.Finish.{member_after_finish, counters_after}
@@ -56,7 +56,7 @@ returns-clause-lines c =
     let same : c.in-Some.running ≡ r = one_running c.self.inside.running c.in-Some.running r c.in-Some.is taken in
     let heard : c.in_ok-plan.plan.receivers.items ≡ flat_map (receiver c.in-Some.running) seen = c.in_ok-plan.ensures.receivers in
     let changed : map line_of c.in_ok-plan.plan.states.items
-        ≡ flat_map (λ m. state_line c.args.now number (counters_after c.in-Some.running m) m) seen = c.in_ok-plan.ensures.states in
+    ≡ flat_map (λ m. state_line c.args.now number (counters_after c.in-Some.running m) m) seen = c.in_ok-plan.ensures.states in
     c.lines_of.ensures ∙ finish-log c.args.self.now _ c.args.now r seen c.in_ok-plan.plan.receivers.items (map line_of c.in_ok-plan.plan.states.items)
     c.self.view_is (sym taken) c.deref.ensures.value (heard ∙ ap (λ x. flat_map (receiver x) seen) same)
     (changed ∙ ap (λ x. flat_map (λ m. state_line c.args.now number (counters_after x m) m) seen) same)
