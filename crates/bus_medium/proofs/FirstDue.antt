@@ -1,18 +1,18 @@
 -- The first start, found without a look at each member: all starts are of one kind, so the one at the least moment is the foremost.
-use Rattle.std.proofs.Common.{◌≡◌, ℕ, ◌≤◌, ◌<◌, ◌+◌, ◌*◌, ◌^◌, ◌==◌, ◌⊎◌, Bool, true, false, not, if◌then◌else◌, max, List, [], ◌∷◌, ◌++◌, fold, filter, Option, Some, None, arith, refl, sym, ap, ◌∙◌, subst, inl, inr, eq-eqb}
-use Rattle.std.specs.Prelude.{◌&&◌, ◌||◌, nat_lt, map, flat_map, filter_map, option_map, option_to_list}
+use Rattle.std.proofs.Common.{◌≡◌, ℕ, ◌≤◌, ◌+◌, ◌*◌, ◌^◌, ◌==◌, ◌⊎◌, Bool, true, false, not, if◌then◌else◌, max, List, [], ◌∷◌, ◌++◌, fold, filter, Option, Some, None, arith, refl, sym, ap, ◌∙◌, subst, inl, inr, eq-eqb}
+use Rattle.std.specs.Prelude.{◌&&◌, nat_lt, map, flat_map, filter_map, option_map, option_to_list}
 use Rattle.std.specs.List.{list_any}
 use Rattle.std.proofs.Math.Nat.{mul-le-mul}
 use Rattle.std.proofs.lemmas.Bool.{both_ways, false_from_ne_true, and_parts, and_from, not-true, not_from_false, eqb-true, or_left, ltb-false, true_from_ne_false}
 use Rattle.std.proofs.lemmas.List.Sums.{fold-append}
 use Rattle.run_specs.specs.Order.{better_of}
 use Rattle.bus_specs.specs.Bus.{Bus, Member, Request, Running, bits, passive, is, takes_part, member_is, has_request, wants, suspended, ready_moment}
-use Rattle.bus_specs.specs.Due.{Due, Finish, Notices, Start, at, notice_moments, precedes, returns, notices, starts, dues, next_due}
+use Rattle.bus_specs.specs.Due.{Due, Finish, Notices, Start, at, notice_moments, precedes, returns, notices, starts, next_due}
 use Rattle.bus_sound.proofs.Among.{Among, among-filter, filter-among}
-use Rattle.bus_sound.proofs.Lists.{among-map, map-among, any_from, any_to, none_at, none_from}
+use Rattle.bus_sound.proofs.Lists.{among-map, map-among, any_from, any_to}
 use Rattle.bus_sound.proofs.Members.{is_from, is_to}
 use Rattle.bus_sound.proofs.Orders.{IsOrder}
-use Rattle.bus_sound.proofs.Dues.{precedes-order, not-before}
+use Rattle.bus_sound.proofs.Dues.{precedes-order}
 use Rattle.bus_medium.specs.FirstDues.{return_of, suspended_by, starts_at_once, starts_later, last_waits, first_ready}
 
 pub some_ticks : (n ticks : ℕ) → n ≤ 128 → ticks ≤ 11 * 10 ^ 12 → n * ticks ≤ 2 ^ 51
@@ -99,8 +99,8 @@ module _ (b : Bus) (now : ℕ) where
       let both = and_parts (takes_part m) (has_request b.requests m.node) w in
       let r = any_to (λ (q : Request). q.node == m.node) b.requests both.1 in
       any_from (λ (q : Request). member_is (starts_at_once b.last_sender) b.members q.node) b.requests r.0 r.1
-          (is_from (starts_at_once b.last_sender) b.members m (r.0).node a (sym (eqb-true (r.0).node m.node r.2))
-          (and_from (takes_part m) (not (suspended b m)) both.0 (not_from_false (suspended b m) e)))
+      (is_from (starts_at_once b.last_sender) b.members m (r.0).node a (sym (eqb-true (r.0).node m.node r.2))
+      (and_from (takes_part m) (not (suspended b m)) both.0 (not_from_false (suspended b m) e)))
 
   later-from : (m : Member) → Among b.members m → wants b m ≡ true → suspended b m ≡ true → last_waits b.last_sender b.members b.requests ≡ true
   later-from m a w s = go b.last_sender refl (and_parts (passive m) (is m.node b.last_sender) s)
@@ -144,13 +144,13 @@ module _ (b : Bus) (now : ℕ) where
       let i = is_to (starts_at_once b.last_sender) b.members (r.0).node r.2 in
       let both = and_parts (takes_part i.member) (not (suspended b i.member)) i.holds in
       let w : wants b i.member ≡ true = and_from (takes_part i.member) (has_request b.requests (i.member).node) both.0
-          (any_from (λ (q : Request). q.node == (i.member).node) b.requests r.0 r.1 (eq-eqb (r.0).node (i.member).node (sym i.node))) in
+      (any_from (λ (q : Request). q.node == (i.member).node) b.requests r.0 r.1 (eq-eqb (r.0).node (i.member).node (sym i.node))) in
       fold-lead precedes precedes-order best (at Start (max now b.idle)) (starts b now)
-          (start-among i.member i.among w b.idle (prompt-ready i.member (not-true (suspended b i.member) both.1)))
-          (λ y a. let s = starter y a in
-              let no-sooner : b.idle ≤ ready_moment b s.member = omega arith in
-              subst (λ z. (precedes (at Start (max now b.idle)) z ≡ true) ⊎ (at Start (max now b.idle) ≡ z)) s.is-it
-              (leads (max now b.idle) (max now (ready_moment b s.member)) (omega (arith, no-sooner))))
+      (start-among i.member i.among w b.idle (prompt-ready i.member (not-true (suspended b i.member) both.1)))
+      (λ y a. let s = starter y a in
+      let no-sooner : b.idle ≤ ready_moment b s.member = omega arith in
+      subst (λ z. (precedes (at Start (max now b.idle)) z ≡ true) ⊎ (at Start (max now b.idle) ≡ z)) s.is-it
+      (leads (max now b.idle) (max now (ready_moment b s.member)) (omega (arith, no-sooner))))
 
   later-start : (best : Option Due) → starts_prompt ≡ false → last_waits b.last_sender b.members b.requests ≡ true
       → first best (starts b now) ≡ better_of precedes best (at Start (max now (b.idle + bits b 8)))
@@ -169,17 +169,17 @@ module _ (b : Bus) (now : ℕ) where
           let i = is_to (starts_later (Some k)) b.members k parts.0 in
           let both = and_parts (takes_part i.member) (suspended_by (Some k) i.member) i.holds in
           let w : wants b i.member ≡ true = and_from (takes_part i.member) (has_request b.requests (i.member).node) both.0
-              (subst (λ n. has_request b.requests n ≡ true) (sym i.node) parts.1) in
+          (subst (λ n. has_request b.requests n ≡ true) (sym i.node) parts.1) in
           let held : suspended b i.member ≡ true = subst (λ x. suspended_by x i.member ≡ true) (sym e) both.1 in
           fold-lead precedes precedes-order best (at Start (max now (b.idle + bits b 8))) (starts b now)
-              (start-among i.member i.among w (b.idle + bits b 8) (later-ready i.member held)) all
+          (start-among i.member i.among w (b.idle + bits b 8) (later-ready i.member held)) all
 
   no-start : (best : Option Due) → starts_prompt ≡ false → last_waits b.last_sender b.members b.requests ≡ false
       → first best (starts b now) ≡ best
   no-start best n l = let none : filter (wants b) b.members ≡ [] = none-filter (wants b) b.members
       (λ m a. false_from_ne_true (wants b m) (λ w. both_ways (suspended b m)
-          (false_from_ne_true (suspended b m) (λ s. both_ways (last_waits b.last_sender b.members b.requests) l (later-from m a w s)))
-          (true_from_ne_false (suspended b m) (λ e. both_ways starts_prompt n (prompt-from m a w e)))))
+      (false_from_ne_true (suspended b m) (λ s. both_ways (last_waits b.last_sender b.members b.requests) l (later-from m a w s)))
+      (true_from_ne_false (suspended b m) (λ e. both_ways starts_prompt n (prompt-from m a w e)))))
       in rw none refl
 
   -- the foremost start is at the first moment at which a node may start
@@ -209,5 +209,5 @@ module _ (b : Bus) (now : ℕ) where
   unfolding next_due
   due-free back noticed start e r n t = rw e (fold-append (better_of precedes) None (returns b ++ notices b) (starts b now)
       ∙ ap (λ x. first x (starts b now)) (fold-append (better_of precedes) None (returns b) (notices b)
-          ∙ ap (λ x. first x (notices b)) (sym r) ∙ sym n)
+      ∙ ap (λ x. first x (notices b)) (sym r) ∙ sym n)
       ∙ starts-first noticed ∙ ap (λ x. first noticed (option_to_list x)) (sym t))

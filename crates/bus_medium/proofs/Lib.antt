@@ -1,3 +1,5 @@
+pub mod Ended
+pub mod Ending
 pub mod FirstDue
 pub mod Folding
 pub mod Looking

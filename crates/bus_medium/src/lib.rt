@@ -5,6 +5,7 @@
 mod course;
 mod inboxes;
 mod due;
+mod finishing;
 mod lookup;
 mod mail;
 mod medium;

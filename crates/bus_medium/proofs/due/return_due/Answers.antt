@@ -1,4 +1,4 @@
-use Rattle.std.proofs.Common.{arith, rules, ◌≤◌, ◌*◌, ◌+◌, ◌^◌, ◌<◌}
+use Rattle.std.proofs.Common.{arith, ◌≤◌, ◌*◌, ◌^◌}
 use Rattle.bus_medium.proofs.FirstDue.{some_ticks}
 use Rattle.bus_medium.proofs.due.return_due.Goals as goal
 

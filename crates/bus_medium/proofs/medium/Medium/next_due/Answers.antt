@@ -1,4 +1,4 @@
-use Rattle.std.proofs.Common.{◌≡◌, ◌∙◌, sym, ap, rules, Some, None}
+use Rattle.std.proofs.Common.{◌∙◌, sym, ap, rules}
 use Rattle.bus_specs.specs.Bus.{Bus, Running}
 use Rattle.bus_medium.specs.Dues.{due_of}
 use Rattle.std.specs.Prelude.{option_map}
