@@ -1,5 +1,5 @@
 //! The end of a frame, and the return of a node that was off.
-ghost use Rattle.std.specs.Prelude.{◌≡◌, ◌≤◌, ◌+◌, ◌^◌, ◌&&◌, ◌∷◌, ◌++◌, [], Some, All, option_to_list, IfOk, OnOk, OnErr, false, not, filter, flat_map, length, map, vec_len, vec_capacity, if◌then◌else◌, ◌==◌};
+ghost use Rattle.std.specs.Prelude.{◌≡◌, ℕ, ◌≤◌, ◌+◌, ◌^◌, ◌&&◌, ◌∷◌, ◌++◌, [], Some, All, option_to_list, IfOk, OnOk, OnErr, false, not, filter, flat_map, length, map, vec_len, vec_capacity, if◌then◌else◌, ◌==◌};
 ghost use Rattle.log_specs.specs.Line as log;
 ghost use Rattle.bus_log.specs.Lines.{line_of, declared_of};
 ghost use Rattle.error_counters.specs.States as states;
@@ -254,7 +254,7 @@ impl Medium {
     /// node that is off now asked for is gone. The bus is unchanged after want of memory.
     #[tactic(auto, unfolding(bus_specs::specs::Finish::finish))]
     pub fn finish(&mut self, alloc: Global, now: u64) -> Result<LineList, AllocError>
-        requires due { next_due_of self.old now ≡ Some (at Finish now) }
+        requires due { (since : ℕ) × (next_due_of self.old since ≡ Some (at Finish now)) }
         requires moment { now ≤ 2 ^ 63 }
         ensures state { OnOk result (self.new ≡ (model.finish self.old now).0) }
         ensures lines { IfOk result (λ lines. lines ≡ (model.finish self.old now).1) }
@@ -286,7 +286,7 @@ impl Medium {
     /// want of memory.
     #[tactic(auto, unfolding(bus_specs::specs::Finish::recover))]
     pub fn recover(&mut self, alloc: Global, now: u64, node: u32) -> Result<LineList, AllocError>
-        requires due { next_due_of self.old now ≡ Some (at (Return node) now) }
+        requires due { (since : ℕ) × (next_due_of self.old since ≡ Some (at (Return node) now)) }
         ensures state { OnOk result (self.new ≡ (model.recover self.old now node).0) }
         ensures lines { IfOk result (λ lines. lines ≡ (model.recover self.old now node).1) }
         ensures err { OnErr result (self.new ≡ self.old) }

@@ -8,7 +8,7 @@ use Rattle.bus_medium.proofs.Ended.{finish-runs, one_running, rising-after, memb
 use Rattle.bus_medium.proofs.medium.Medium.finish.Goals as goal
 
 pub unreachable-requires : goal.unreachable-requires
-unreachable-requires c = finish-runs c.args.self.now c.args.now c.args.now c.requires.due
+unreachable-requires c = finish-runs c.args.self.now c.requires.due.0 c.args.now c.requires.due.1
     (ap (λ (b : Bus). b.running) (sym c.self.view_is) ∙ c.in_default.is)
 
 pub drop_requests-requires : goal.drop_requests-requires
