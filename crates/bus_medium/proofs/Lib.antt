@@ -3,3 +3,4 @@ pub mod Placing
 pub mod Opening
 pub mod Keeping
 pub mod Taking
+pub mod Living

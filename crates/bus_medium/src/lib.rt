@@ -17,3 +17,6 @@ mod submitting;
 
 pub use medium::Medium;
 pub use setup::BusSetup;
+
+#[cfg(test)]
+mod tests_submit;
