@@ -1,11 +1,13 @@
 -- What a submission and an inbox that is taken keep of a bus, and one bus with one live node.
-use Rattle.std.proofs.Common.{◌≡◌, ◌≤◌, ◌+◌, ℕ, ◌==◌, Bool, true, false, if◌then◌else◌, List, [], ◌∷◌, map, None, Option, arith, refl}
+use Rattle.std.proofs.Common.{◌≡◌, ◌≤◌, ◌+◌, ℕ, ◌==◌, Bool, true, false, if◌then◌else◌, List, [], ◌∷◌, map, None, Option, arith, refl, sym, ap, ◌∙◌, subst}
 use Rattle.frame_specs.specs.Frame.{Frame}
-use Rattle.bus_specs.specs.Bus.{Bus, Member, member_is, with_member, bits}
+use Rattle.bus_specs.specs.Bus.{Bus, Member, member_is, with_member, bits, new_bus}
 use Rattle.bus_specs.specs.Submit.{Submission, Transmit, Keep, Discard, Wakeup, Sleep, Rate, FdRate, Declare, FormatError, Unfit, Fate, Accepted, Full, Dropped, fate, with_request, bus_after_submission, submit, member_after_wakeup, wake_notice, format_notice}
 use Rattle.bus_specs.specs.Inbox.{take_inbox, member_after_inbox, enter}
 use Rattle.bus_sound.proofs.Members.{member_is-map, KeepsNodes}
 use Rattle.bus_sound.proofs.Counts.{submit-rises}
+use Rattle.bus_medium.specs.declared.setup.BusSetup.{BusSetup}
+use Rattle.bus_medium.specs.Setups.{setup_of}
 use Rattle.bus_medium.specs.Places.{changed}
 
 abbrev pub live_at : List Member → ℕ → Type 0
@@ -76,3 +78,11 @@ take_inbox_live b now node n h = one-live b.members node n (member_after_inbox n
 pub take_inbox_next : (b : Bus) (now node : ℕ) → (take_inbox b now node).0.next ≡ b.next
 unfolding take_inbox
 take_inbox_next b now node = refl
+
+-- two nodes enter a new bus
+pub two_live : (s : BusSetup) (b0 b1 b2 : Bus) → s.members ≡ 0 ∷ 1 ∷ [] → b0 ≡ new_bus (setup_of s) s.members → b1 ≡ enter b0 0 → b2 ≡ enter b1 1
+    → live_at b2.members 0 × live_at b2.members 1 × (b2.next ≡ 0)
+two_live s b0 b1 b2 nodes e0 e1 e2 =
+    let e : b2 ≡ enter (enter (new_bus (setup_of s) (0 ∷ 1 ∷ [])) 0) 1 =
+    e2 ∙ ap (λ b. enter b 1) e1 ∙ ap (λ b. enter (enter b 0) 1) e0 ∙ ap (λ ns. enter (enter (new_bus (setup_of s) ns) 0) 1) nodes in
+    subst (λ (b : Bus). live_at b.members 0 × live_at b.members 1 × (b.next ≡ 0)) (sym e) (refl, refl, refl)
