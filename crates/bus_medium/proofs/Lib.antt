@@ -11,3 +11,4 @@ pub mod Behind
 pub mod Placing
 pub mod Keeping
 pub mod Taking
+pub mod Living

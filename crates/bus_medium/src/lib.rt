@@ -24,3 +24,6 @@ mod submitting;
 pub use due::{Due, What};
 pub use medium::Medium;
 pub use setup::BusSetup;
+
+#[cfg(test)]
+mod tests_submit;
