@@ -11,4 +11,3 @@ pub mod Behind
 pub mod Placing
 pub mod Keeping
 pub mod Taking
-pub mod Living

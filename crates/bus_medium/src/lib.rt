@@ -25,5 +25,3 @@ pub use due::{Due, What};
 pub use medium::Medium;
 pub use setup::BusSetup;
 
-#[cfg(test)]
-mod tests_submit;
