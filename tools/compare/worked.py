@@ -132,6 +132,37 @@ end 0 8"""),
 1204000 0 hurt 1 1
 1204000 0 state 0 active
 end 0 35"""),
+    ("the only listener is hurt, so nobody acknowledges", HEADER % (2, 1228000),
+     "error 1 17 1 1 10\n0 0 send 000#", """...
+1082000 0 fail 0 000# 1 1
+1082000 0 state 0 passive
+1082000 0 state 1 passive
+1104000 0 start 0 000#
+1228000 0 fail 0 000# 5 0
+1228000 0 hurt 1 1
+end 0 35"""),
+    ("a line of the script for a node that sleeps doesn't apply", HEADER % (3, 100000),
+     "error 1 1 4 2 30\nerror 1 1 2 1 10\n0 2 sleep\n0 0 send 000#", """0 0 sleep 2
+0 0 req 0 000#
+0 0 start 0 000#
+62000 0 fail 0 000# 2 1
+68000 0 start 0 000#
+end 0 4"""),
+    ("an error behind the last bit, and a sender that sleeps", PLAIN,
+     "error 1 1 3 sender 1023\n0 0 send 000#\n50000 0 sleep\n200000 0 wake", """0 0 req 0 000#
+0 0 start 0 000#
+50000 0 sleep 0
+140000 0 fail 0 000# 3 0
+200000 0 wake 0
+200000 0 start 0 000#
+202000 0 told 1 wake
+300000 0 done 0 000# to 1
+end 0 8"""),
+    ("a listener that falls asleep", PLAIN, "0 0 send 000#\n50000 1 sleep", """0 0 req 0 000#
+0 0 start 0 000#
+50000 0 sleep 1
+100000 0 done 0 000# to -
+end 0 4"""),
 ]
 
 
