@@ -24,6 +24,7 @@ NUMBERS = [0, 1, 2, 31, 32, 33, 255, 256, 1023, 1024, 2 ** 32 - 1, 2 ** 32, 2 **
 WORDS = [b"send", b"wake", b"sleep", b"keep", b"discard", b"error", b"play", b"sender", b"R", b"#",
          b"000#", b"000##", b"000##0", b"00000000#R", b"800#", b"7FF#", b"20000000#", b"000#0", b""]
 NAMES = [b"send", b"wake", b"sleep", b"keep", b"discard"]
+ENDLESS = b"play 1 1 0 1 4611686018427387904\n0 0 send 000#\n"
 MIXES = [[1, 0, 0, 0, 0], [8, 0, 0, 1, 2], [6, 2, 2, 0, 0], [8, 1, 1, 1, 1], [2, 1, 1, 1, 1]]
 
 
@@ -87,8 +88,8 @@ class Bus:
 
 
 def random_errors(dice, bus):
-    """An error script: none, single ones, whole stretches, or one upon the other."""
-    kind = dice.randrange(5)
+    """An error script: none, single ones, whole stretches, one upon the other, or as many as can be."""
+    kind = dice.choices(range(6), [5, 5, 5, 5, 5, 1])[0]
     if kind == 0:
         return []
     if kind == 1:
@@ -97,6 +98,8 @@ def random_errors(dice, bus):
         return [bus.error(first, dice.choice([1, 1, 2, 9])) for first in range(1, 200, 3)]
     if kind == 3:
         return [bus.error(1, dice.choice([16, 17, 32, 33, 70, 2 ** 32]))]
+    if kind == 5:
+        return [bus.error(dice.randint(1, 500), dice.choice([1, 2, 5])) for _ in range(1024)]
     return [bus.error(dice.randint(1, 60), dice.choice([1, 5, 20, 40, 2 ** 32]))
             for _ in range(dice.randint(1, 12))]
 
@@ -212,6 +215,7 @@ def files(dice):
     for text, _, _ in broken.refused():
         yield text
     yield from broken.accepted()
+    yield ENDLESS
     while True:
         yield random_file(dice)
 
