@@ -1,6 +1,6 @@
 #!/usr/bin/env python3
-"""Runs random play files, good and bad, through the program and through simulate.py, and compares
-the output, the error stream and the exit status.
+"""Runs play files, good and bad, through the program and through simulate.py, and compares the
+output, the error stream and the exit status: first those of worked.py and broken.py, then random ones.
 
     compare.py [PROGRAM [SECONDS [SEED]]]
 """
@@ -11,7 +11,10 @@ import sys
 import tempfile
 import time
 
+import broken
 import simulate
+import wire
+import worked
 
 HERE = os.path.dirname(os.path.realpath(__file__))
 PROGRAM = os.path.join(HERE, "../../crates/bench/out/bench")
@@ -20,6 +23,13 @@ NUMBERS = [0, 1, 2, 31, 32, 33, 255, 256, 1023, 1024, 2 ** 32 - 1, 2 ** 32, 2 **
            2 ** 64, 10 ** 12, 10 ** 12 + 1, 10 ** 30]
 WORDS = [b"send", b"wake", b"sleep", b"keep", b"discard", b"error", b"play", b"sender", b"R", b"#",
          b"000#", b"000##", b"000##0", b"00000000#R", b"800#", b"7FF#", b"20000000#", b"000#0", b""]
+NAMES = [b"send", b"wake", b"sleep", b"keep", b"discard"]
+ENDLESS = b"play 1 1 0 1 4611686018427387904\n0 0 send 000#\n"
+MIXES = [[1, 0, 0, 0, 0], [8, 0, 0, 1, 2], [6, 2, 2, 0, 0], [8, 1, 1, 1, 1], [2, 1, 1, 1, 1]]
+
+
+def lines_of(lines):
+    return b"".join(line + b"\n" for line in lines)
 
 
 def random_rate(dice, resolution):
@@ -43,38 +53,101 @@ def random_frame(dice, bases, fd):
         return name + b"#R"
     if kind < 0.55 or not fd:
         return name + b"#" + random_bytes(dice, dice.randint(0, 8))
-    length = dice.choice(simulate.FD_LENGTHS)
+    length = dice.choice(wire.FD_LENGTHS)
     return name + b"##%d" % dice.randint(0, 3) + random_bytes(dice, length)
 
 
+class Bus:
+    """What the lines of a random play have in common. Few identifiers, so that many requests meet."""
+
+    def __init__(self, dice, most):
+        self.dice = dice
+        self.resolution = dice.choice(RESOLUTIONS)
+        self.rate = random_rate(dice, self.resolution)
+        self.data_rate = dice.choice([0, self.rate, random_rate(dice, self.resolution)])
+        self.nodes = dice.choice([1, 2, 2, 3, 3, 4, 5, 32])
+        self.bit = self.resolution // self.rate
+        bases = [dice.getrandbits(11) for _ in range(dice.choice([1, 2, 8]))]
+        self.frames = [random_frame(dice, bases, self.data_rate)
+                       for _ in range(dice.choice([1, 3, most]))]
+
+    def header(self, stop):
+        return b"play %d %d %d %d %d" % (self.resolution, self.rate, self.data_rate, self.nodes, stop)
+
+    def error(self, first, count):
+        dice = self.dice
+        by = dice.choice([b"sender", b"%d" % dice.randrange(self.nodes)])
+        bit = dice.choice([0, 1, dice.randint(0, 60), dice.randint(0, 200), 1023])
+        return b"error %d %d %d %s %d" % (first, count, dice.randint(1, 4), by, bit)
+
+    def action(self, moment, mix):
+        dice = self.dice
+        name = dice.choices(NAMES, mix)[0]
+        line = b"%d %d %s" % (moment, dice.randrange(self.nodes), name)
+        return line + b" " + dice.choice(self.frames) if name == b"send" else line
+
+
+def random_errors(dice, bus):
+    """An error script: none, single ones, whole stretches, one upon the other, or as many as can be."""
+    kind = dice.choices(range(6), [5, 5, 5, 5, 5, 1])[0]
+    if kind == 0:
+        return []
+    if kind == 1:
+        return [bus.error(dice.randint(1, 20), 1) for _ in range(dice.randint(1, 5))]
+    if kind == 2:
+        return [bus.error(first, dice.choice([1, 1, 2, 9])) for first in range(1, 200, 3)]
+    if kind == 3:
+        return [bus.error(1, dice.choice([16, 17, 32, 33, 70, 2 ** 32]))]
+    if kind == 5:
+        return [bus.error(dice.randint(1, 500), dice.choice([1, 2, 5])) for _ in range(1024)]
+    return [bus.error(dice.randint(1, 60), dice.choice([1, 5, 20, 40, 2 ** 32]))
+            for _ in range(dice.randint(1, 12))]
+
+
 def random_play(dice, most):
-    """A good play file: few identifiers, so that many requests meet."""
-    resolution = dice.choice(RESOLUTIONS)
-    rate = random_rate(dice, resolution)
-    data_rate = dice.choice([0, rate, random_rate(dice, resolution)])
-    nodes = dice.choice([2, 2, 3, 5, 32])
-    bit = resolution // rate
-    bases = [dice.getrandbits(11) for _ in range(dice.choice([1, 2, 8]))]
-    frames = [random_frame(dice, bases, data_rate) for _ in range(dice.choice([1, 3, most]))]
-    span = dice.choice([0, bit, 60 * bit, 3000 * bit])
+    """A good play file; some last long enough for nodes to go bus off and to come back."""
+    bus = Bus(dice, most)
+    bit = bus.bit
+    span = dice.choice([0, bit, 60 * bit, 3000 * bit, 10000 * bit])
     moments = sorted(dice.randint(0, span) // bit * bit + dice.choice([0, 0, 1])
                      for _ in range(dice.randint(0, most)))
-    stop = dice.choice([2 ** 62, span, span + 200 * bit, dice.randint(0, span + 1)])
-    lines = [b"play %d %d %d %d %d" % (resolution, rate, data_rate, nodes, stop)]
-    for moment in moments:
-        lines.append(b"%d %d send %s" % (moment, dice.randrange(nodes), dice.choice(frames)))
-    return b"".join(line + b"\n" for line in lines)
+    stop = dice.choice([span, span + 200 * bit, span + 8000 * bit, dice.randint(0, span + 1)])
+    mix = dice.choice(MIXES)
+    errors = random_errors(dice, bus)
+    actions = [bus.action(moment, mix) for moment in moments]
+    return lines_of([bus.header(stop)] + errors + actions)
 
 
 def flood(dice):
     """A play in which queues fill up."""
-    lines = [b"play 1000000000 500000 2000000 2 %d" % dice.choice([0, 10 ** 8, 2 ** 62])]
-    moment = 0
-    for _ in range(dice.randint(200, 900)):
-        moment += dice.choice([0, 0, 0, 0, 50000])
-        frame = random_frame(dice, [0, 0x7FF], True)
-        lines.append(b"%d %d send %s" % (moment, dice.choice([0, 0, 0, 1]), frame))
-    return b"".join(line + b"\n" for line in lines)
+    bus = Bus(dice, 40)
+    bus.nodes = dice.choice([1, 2, 2, 3])
+    actions, moment = [], 0
+    for _ in range(dice.randint(260, 900)):
+        moment += dice.choice([0, 0, 0, 0, 25 * bus.bit])
+        node = dice.choice([0, 0, 0, bus.nodes - 1])
+        actions.append(b"%d %d send %s" % (moment, node, dice.choice(bus.frames)))
+        if dice.random() < 0.01:
+            actions.append(bus.action(moment, [0, 1, 1, 1, 1]))
+    stop = dice.choice([0, moment, moment + 30000 * bus.bit])
+    return lines_of([bus.header(stop)] + random_errors(dice, bus) + actions)
+
+
+def decline(dice):
+    """A play that leads several nodes to error passive and bus off, with frames all the time."""
+    bus = Bus(dice, 10)
+    bus.nodes = dice.choice([2, 3, 3, 4, 6])
+    errors, first = [], 1
+    while first < 400:
+        count = dice.choice([1, 10, 17, 33])
+        errors.append(bus.error(first, count))
+        first += count + dice.choice([-5, 0, 0, 1, 5])
+        first = max(first, 1)
+    stop = dice.choice([9000, 20000]) * bus.bit
+    moments = sorted(dice.randint(0, stop) for _ in range(dice.randint(20, 150)))
+    mix = dice.choice(MIXES[:3])
+    actions = [bus.action(moment, mix) for moment in moments]
+    return lines_of([bus.header(stop)] + errors + actions)
 
 
 def changed_line(dice, line):
@@ -116,30 +189,53 @@ def changed(dice, text):
     return b"\n".join(lines)
 
 
+def ends_soon(text):
+    """Whether a play stops before a bus that never rests has used the budget of events."""
+    try:
+        play = simulate.read_play(text)
+    except simulate.Refused:
+        return True
+    return play.stop // play.nominal < 10 ** 6
+
+
 def random_file(dice):
     kind = dice.random()
     if kind < 0.05:
         return flood(dice)
-    text = random_play(dice, 40 if kind < 0.5 else 10)
-    return text if kind < 0.5 else changed(dice, text)
+    if kind < 0.25:
+        return decline(dice)
+    text = random_play(dice, 40 if kind < 0.6 else 10)
+    text = text if kind < 0.6 else changed(dice, text)
+    return text if ends_soon(text) else random_file(dice)
+
+
+def files(dice):
+    for _, header, lines, _ in worked.WORKED:
+        yield (header + "\n" + lines + "\n").encode()
+    for text, _, _ in broken.refused():
+        yield text
+    yield from broken.accepted()
+    yield ENDLESS
+    while True:
+        yield random_file(dice)
 
 
 def main(program=PROGRAM, seconds="60", seed="1"):
-    dice = random.Random(int(seed))
     end = time.monotonic() + float(seconds)
-    files = 0
+    count = 0
     with tempfile.TemporaryDirectory() as folder:
         path = os.path.join(folder, "a.play")
-        while time.monotonic() < end:
-            text = random_file(dice)
+        for text in files(random.Random(int(seed))):
             with open(path, "wb") as file:
                 file.write(text)
             ran = subprocess.run([program, "play", path], capture_output=True, check=False)
             if (ran.returncode, ran.stdout, ran.stderr) != simulate.outcome(text):
                 sys.stdout.buffer.write(text)
-                sys.exit(f"the two differ on this file, number {files} of seed {seed}")
-            files += 1
-    print(f"{files} files, no difference")
+                sys.exit(f"the two differ on this file, number {count} of seed {seed}")
+            count += 1
+            if time.monotonic() > end:
+                break
+    print(f"{count} files, no difference")
 
 
 if __name__ == "__main__":
