@@ -1,5 +1,5 @@
 -- The parts of a text, one cut after the other.
-use Rattle.std.proofs.Common.{◌≡◌, ℕ, ◌+◌, ◌==◌, Bool, true, false, List, [], ◌∷◌, length, Option, Some, None, ◌≤◌, refl, sym, ap, subst, ◌∙◌, arith}
+use Rattle.std.proofs.Common.{◌≡◌, ℕ, ◌==◌, Bool, true, false, List, [], ◌∷◌, Option, Some, None, refl, sym, ap, subst, arith}
 use Rattle.std.specs.Prelude.{option_map, MatchOption, if◌then◌else◌}
 use Rattle.frame_specs.specs.FrameReading.{cut}
 use Rattle.bus_log.specs.Cuts.{parts, with_front}

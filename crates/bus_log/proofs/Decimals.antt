@@ -3,7 +3,6 @@ use Rattle.std.proofs.Common.{◌≡◌, ◌≢◌, ◌≤◌, ◌<◌, ℕ, ◌
 use Rattle.std.specs.Prelude.{if◌then◌else◌, nat_le, decimal, option_and_then}
 use Rattle.std.proofs.lemmas.Bool.Decides.{nat_tests}
 use Rattle.std.proofs.lemmas.Fmt.{decimal_by_steps, decimal_step, decimal_digit}
-use Rattle.bus_log.specs.IsLine.{is_within}
 use Rattle.bus_log.specs.Reading.{is_digit, digits_value, number_of, within, number_in}
 use Rattle.bus_log.proofs.Options.{bind_some}
 

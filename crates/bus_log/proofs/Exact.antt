@@ -1,9 +1,8 @@
 -- The walk reads each text as the line that it spells.
-use Rattle.std.proofs.Common.{◌≡◌, ℕ, List, Option, Some, None, Result, Ok, Err, refl, sym, ap, subst, ◌∙◌}
+use Rattle.std.proofs.Common.{◌≡◌, ℕ, List, Option, Some, None, Result, Ok, Err, refl, sym, ap, ◌∙◌}
 use Rattle.std.specs.Prelude.{IfOk, IfSome, option_map}
 use Rattle.std.proofs.lemmas.Option.{same_Some}
-use Rattle.log_specs.specs.Line.{Line, line_text}
-use Rattle.bus_log.specs.IsLine.{IsLine, Fits}
+use Rattle.log_specs.specs.Line.{Line}
 use Rattle.bus_log.specs.Spelling.{Spells, IsReadAs}
 use Rattle.bus_log.specs.Reading.{line_of_text}
 use Rattle.bus_log.proofs.Written.{line_of_text-line_text}

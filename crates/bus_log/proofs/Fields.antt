@@ -1,5 +1,5 @@
 -- The words of a line: each is read as what it is the text of, and what is read has that text.
-use Rattle.std.proofs.Common.{◌≡◌, ◌≤◌, ◌<◌, ℕ, ◌+◌, ◌*◌, ◌/◌, ◌%◌, ◌^◌, ◌&&◌, Bool, true, false, List, [], ◌∷◌, ◌++◌, length, Option, Some, None, refl, sym, ap, subst, ◌∙◌, arith, length-append}
+use Rattle.std.proofs.Common.{◌≡◌, ◌≤◌, ◌<◌, ℕ, ◌+◌, ◌*◌, ◌/◌, ◌%◌, ◌^◌, Bool, true, false, List, [], ◌∷◌, ◌++◌, length, Some, None, refl, sym, ap, subst, ◌∙◌, arith, length-append}
 use Rattle.std.specs.Prelude.{nat_lt, nat_le, decimal, codes, bytes_eq, option_and_then, option_map, if◌then◌else◌, All}
 use Rattle.std.proofs.lemmas.Bool.{and_parts, and_from, false_from_ne_true}
 use Rattle.std.proofs.lemmas.Bool.Decides.{nat_tests}
@@ -9,7 +9,7 @@ use Rattle.std.proofs.lemmas.Slice.Eq.{bytes_eq-Decides}
 use Rattle.std.proofs.lemmas.Fmt.{decimal_nonempty}
 use Rattle.frame_specs.specs.Frame.{Frame, is_well_formed}
 use Rattle.frame_specs.specs.FrameText.{frame_text, hex, hex_bytes}
-use Rattle.frame_specs.specs.FrameReading.{frame_of, bytes_of, Spells}
+use Rattle.frame_specs.specs.FrameReading.{frame_of, bytes_of}
 use Rattle.frame_specs.proofs.FrameReadingLaws.{frame_of_from_spells, spells_from_frame_of, bytes_of-hex_bytes, hex_bytes-spelled}
 use Rattle.log_specs.specs.Line.{bytes_text, joined, numbers, numbers_text}
 use Rattle.bus_log.specs.Cuts.{parts}
@@ -17,8 +17,8 @@ use Rattle.bus_log.specs.IsLine.{is_within, rise_from, all_below, frame_fits}
 use Rattle.bus_log.specs.Verbs.{named}
 use Rattle.bus_log.specs.Reading.{number_in, number_of, word32, rising_from, numbers_in, counted, bytes_in, four, id_in}
 use Rattle.bus_log.proofs.Options.{bind_some, map_some, if_some}
-use Rattle.bus_log.proofs.Decimals.{Between, IsNumber, number_in-decimal, number_in-some}
-use Rattle.bus_log.proofs.Separators.{over, over-append, over-decimal, all_over, all_without, parts_joined, joined_parts, some_part}
+use Rattle.bus_log.proofs.Decimals.{Between, number_in-decimal, number_in-some}
+use Rattle.bus_log.proofs.Separators.{over, over-decimal, all_over, all_without, parts_joined, joined_parts, some_part}
 use Rattle.bus_log.proofs.Texts.{hex_of_bytes}
 
 pub word_is : (text word : List ℕ) → bytes_eq text word ≡ true → text ≡ word
@@ -269,9 +269,11 @@ four-some (a ∷ b ∷ c ∷ d ∷ []) id read small =
     let s2 = All-tail P b (c ∷ d ∷ []) s1 in
     let s3 = All-tail P c (d ∷ []) s2 in
     let value : 2 ^ 24 * a + 2 ^ 16 * b + 2 ^ 8 * c + d ≡ id = same_Some (2 ^ 24 * a + 2 ^ 16 * b + 2 ^ 8 * c + d) id read in
-    let back = four_back a b c d id (All-head P a (b ∷ c ∷ d ∷ []) small) (All-head P b (c ∷ d ∷ []) s1) (All-head P c (d ∷ []) s2) (All-head P d [] s3) value in
-    (back.4, hex_of_bytes id ∙ ap (λ x. hex_bytes (x ∷ id / 2 ^ 16 % 256 ∷ id / 2 ^ 8 % 256 ∷ id % 256 ∷ [])) back.0
-    ∙ ap (λ x. hex_bytes (a ∷ x ∷ id / 2 ^ 8 % 256 ∷ id % 256 ∷ [])) back.1 ∙ ap (λ x. hex_bytes (a ∷ b ∷ x ∷ id % 256 ∷ [])) back.2 ∙ ap (λ x. hex_bytes (a ∷ b ∷ c ∷ x ∷ [])) back.3)
+    let back = four_back a b c d id (All-head P a (b ∷ c ∷ d ∷ []) small) (All-head P b (c ∷ d ∷ []) s1) (All-head P c (d ∷ []) s2) (All-head P d [] s3) value in (
+      back.4,
+      hex_of_bytes id ∙ ap (λ x. hex_bytes (x ∷ id / 2 ^ 16 % 256 ∷ id / 2 ^ 8 % 256 ∷ id % 256 ∷ [])) back.0
+          ∙ ap (λ x. hex_bytes (a ∷ x ∷ id / 2 ^ 8 % 256 ∷ id % 256 ∷ [])) back.1 ∙ ap (λ x. hex_bytes (a ∷ b ∷ x ∷ id % 256 ∷ [])) back.2 ∙ ap (λ x. hex_bytes (a ∷ b ∷ c ∷ x ∷ [])) back.3,
+    )
 four-some (a ∷ b ∷ c ∷ d ∷ e ∷ bs) id read small = cc read
 
 pub id_in-some : (text : List ℕ) (id : ℕ) → id_in text ≡ Some id → IsId id text

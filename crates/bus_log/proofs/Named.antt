@@ -1,5 +1,5 @@
 -- Looking a word up among names.
-use Rattle.std.proofs.Common.{◌≡◌, ℕ, Bool, true, false, cond, List, [], ◌∷◌, Option, Some, None, map, refl, ◌∙◌, ap}
+use Rattle.std.proofs.Common.{◌≡◌, ℕ, Bool, true, false, cond, List, [], ◌∷◌, Option, Some, map, refl}
 use Rattle.std.specs.Prelude.{option_map, bytes_eq}
 use Rattle.bus_log.specs.Verbs.{named}
 

@@ -1,7 +1,7 @@
 -- What a text is read as has that text.
-use Rattle.std.proofs.Common.{◌≡◌, ◌<◌, ◌≤◌, ℕ, ◌+◌, ◌^◌, ◌&&◌, ◌||◌, ◌==◌, Bool, true, false, List, [], ◌∷◌, ◌++◌, Option, Some, None, refl, sym, ap, subst, ◌∙◌, arith}
+use Rattle.std.proofs.Common.{◌≡◌, ℕ, ◌^◌, ◌&&◌, ◌||◌, ◌==◌, Bool, true, false, List, [], ◌∷◌, ◌++◌, Option, Some, None, refl, sym, ap, subst, ◌∙◌, arith}
 use Rattle.std.specs.Prelude.{nat_lt, decimal, codes, bytes_eq, option_and_then, option_map, if◌then◌else◌}
-use Rattle.std.proofs.lemmas.Bool.{and_parts, and_from}
+use Rattle.std.proofs.lemmas.Bool.{and_from}
 use Rattle.std.proofs.lemmas.Option.{same_Some}
 use Rattle.operation_specs.specs.Operation.{Declared}
 use Rattle.frame_specs.specs.Frame.{Frame}
@@ -11,10 +11,10 @@ use Rattle.frame_specs.proofs.FrameReadingLaws.{cut-spelled}
 use Rattle.log_specs.specs.Line as log
 use Rattle.log_specs.specs.Line.{Line, On, Down, Over, End, Told, Cause, said, words, joined, line_text, level_text, cause_text, bytes_text, numbers_text}
 use Rattle.bus_log.specs.Cuts.{parts}
-use Rattle.bus_log.specs.IsLine.{is_within, is_told, is_line, all_below, frame_fits, told_fits, line_fits, IsLine, Fits}
+use Rattle.bus_log.specs.IsLine.{is_within, is_told, all_below, frame_fits, told_fits, IsLine, Fits}
 use Rattle.bus_log.specs.Spelling.{Spells}
 use Rattle.bus_log.specs.Verbs.{verbs, verb_text, verb_named}
-use Rattle.bus_log.specs.Reading.{number_in, word32, word64, bytes_in, id_in, numbers_in, levels, causes, cause_named, level_named, bare, one, lost_in, wake_in, text_in, notice_in, done_in, fail_in, told_by, told_in, status_of, end_in, unit_line_in, bus_line_in, node_line_in, line_in, ended, line_of_text}
+use Rattle.bus_log.specs.Reading.{number_in, word32, word64, bytes_in, id_in, numbers_in, levels, causes, cause_named, level_named, bare, one, lost_in, wake_in, notice_in, done_in, fail_in, told_by, told_in, status_of, end_in, bus_line_in, node_line_in, line_in, ended, line_of_text}
 use Rattle.bus_log.specs.declared.verb.Verb.{Verb}
 use Rattle.bus_log.specs.declared.verb.Verb.TheVariants as verb
 use Rattle.bus_log.proofs.Options.{bind_some, map_some, if_some}
@@ -281,7 +281,7 @@ bus_line_laid t moment bus word n node rest line tm nm found =
     let laid : P (On t b.0 n told.0) = record {
       is = s.is;
       fits = and_from (nat_lt t (2 ^ 64) && nat_lt b.0 (2 ^ 32) && nat_lt n (2 ^ 32)) (told_fits told.0)
-      (and_from (nat_lt t (2 ^ 64) && nat_lt b.0 (2 ^ 32)) (nat_lt n (2 ^ 32)) (and_from (nat_lt t (2 ^ 64)) (nat_lt b.0 (2 ^ 32)) (long_number t moment tm) (word_number b.0 bus bm)) (word_number n node nm)) s.fits;
+          (and_from (nat_lt t (2 ^ 64) && nat_lt b.0 (2 ^ 32)) (nat_lt n (2 ^ 32)) (and_from (nat_lt t (2 ^ 64)) (nat_lt b.0 (2 ^ 32)) (long_number t moment tm) (word_number b.0 bus bm)) (word_number n node nm)) s.fits;
       written = four_words (decimal t) (decimal b.0) (said told.0).0 (decimal n) moment bus word node (said told.0).1 rest tm.written bm.written s.word_is nm.written s.rest_is;
     } in
     subst P same laid
@@ -296,7 +296,7 @@ down_laid t moment bus word n node (w ∷ []) line tm nm dash down found =
       is = refl;
       fits = and_from (nat_lt t (2 ^ 64)) (nat_lt n (2 ^ 32)) (long_number t moment tm) (word_number n node nm);
       written = four_words (decimal t) (codes "-") (codes "down") (decimal n) moment bus word node (cause_text cause.0 ∷ []) (w ∷ []) tm.written dash down nm.written
-      (one_word (cause_text cause.0) w (named-some cause_text causes w cause.0 cause.1));
+          (one_word (cause_text cause.0) w (named-some cause_text causes w cause.0 cause.1));
     } in
     subst P cause.2 laid
 down_laid t moment bus word n node (w ∷ x ∷ ws) line tm nm dash down found = cc found

@@ -1,10 +1,10 @@
 -- The text of a line, part by part.
-use Rattle.std.proofs.Common.{◌≡◌, ◌<◌, ℕ, ◌+◌, ◌*◌, ◌/◌, ◌%◌, ◌^◌, List, [], ◌∷◌, ◌++◌, Option, Some, None, decimal, flat_map, refl, sym, ap, ◌∙◌, arith, append_assoc}
+use Rattle.std.proofs.Common.{◌≡◌, ℕ, ◌/◌, ◌%◌, ◌^◌, List, [], ◌∷◌, ◌++◌, Some, None, decimal, flat_map, refl, sym, ap, ◌∙◌, arith, append_assoc}
 use Rattle.std.specs.Prelude.{codes}
 use Rattle.std.proofs.lemmas.List.{append-nil}
 use Rattle.std.proofs.lemmas.Option.{same_Some}
-use Rattle.frame_specs.specs.FrameText.{hex, hex_bytes, hex_digit}
-use Rattle.log_specs.specs.Line.{Line, On, Down, Over, End, said, joined, numbers, numbers_text, line_text, words}
+use Rattle.frame_specs.specs.FrameText.{hex, hex_bytes}
+use Rattle.log_specs.specs.Line.{Line, On, Down, Over, End, said, joined, numbers_text, line_text}
 use Rattle.bus_log.specs.Commas.{behind_comma}
 use Rattle.bus_log.specs.Parts.{moment_of, bus_of, node_of, verb_of, rest_of, head_of, number_or_dash, spaced}
 

@@ -1,16 +1,14 @@
 -- The text of a line is read as that line.
-use Rattle.std.proofs.Common.{◌≡◌, ◌<◌, ◌≤◌, ℕ, ◌+◌, ◌^◌, ◌&&◌, ◌||◌, ◌==◌, Bool, true, false, List, [], ◌∷◌, ◌++◌, Option, Some, None, refl, sym, ap, subst, ◌∙◌, arith}
-use Rattle.std.specs.Prelude.{nat_lt, decimal, codes, bytes_eq, option_and_then, option_map, if◌then◌else◌}
-use Rattle.std.proofs.lemmas.Bool.{and_parts, and_from, or_cases}
+use Rattle.std.proofs.Common.{◌≡◌, ◌<◌, ◌≤◌, ℕ, ◌^◌, ◌&&◌, ◌||◌, ◌==◌, true, List, [], ◌∷◌, ◌++◌, Some, refl, sym, ap, subst, ◌∙◌, arith}
+use Rattle.std.specs.Prelude.{nat_lt, decimal, codes, option_and_then, option_map}
+use Rattle.std.proofs.lemmas.Bool.{and_parts}
 use Rattle.std.proofs.lemmas.Bool.Decides.{nat_tests}
 use Rattle.operation_specs.specs.Operation.{Declared, Active, Passive, Off}
-use Rattle.frame_specs.specs.Frame.{Frame}
-use Rattle.frame_specs.specs.FrameText.{frame_text, hex, hex_bytes}
+use Rattle.frame_specs.specs.FrameText.{frame_text, hex}
 use Rattle.log_specs.specs.Line as log
 use Rattle.log_specs.specs.Line.{Line, On, Down, Over, End, Told, Cause, said, words, joined, line_text, level_text, cause_text, bytes_text, numbers, numbers_text}
-use Rattle.bus_log.specs.Cuts.{parts}
-use Rattle.bus_log.specs.IsLine.{is_within, is_told, is_line, all_below, rise_from, frame_fits, told_fits, line_fits, IsLine, Fits}
-use Rattle.bus_log.specs.Reading.{number_in, word32, word64, bytes_in, id_in, numbers_in, cause_named, level_named, told_in, status_of, end_in, unit_line_in, bus_line_in, node_line_in, line_in, line_of_text}
+use Rattle.bus_log.specs.IsLine.{is_within, is_told, all_below, frame_fits, told_fits, IsLine, Fits}
+use Rattle.bus_log.specs.Reading.{number_in, word32, word64, cause_named, level_named, told_in, status_of, line_in, line_of_text}
 use Rattle.bus_log.proofs.Decimals.{number_in-decimal}
 use Rattle.bus_log.proofs.Separators.{over, all_over, over-append, over-decimal, over-hex, over-hex_bytes, over-frame, line_without, words_of_line, cut_line}
 use Rattle.bus_log.proofs.Fields.{decimal_no_dash, is_within-parts, limit_above, numbers_in-text, bytes_in-text, id_in-text, frame_of-text}

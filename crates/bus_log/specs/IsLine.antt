@@ -1,7 +1,7 @@
 -- Which lines a log can have: the bytes of one are at most 64, its kinds of error are those of the standard, its receivers rise.
 use Rattle.std.specs.Prelude.{◌≡◌, ℕ, ◌+◌, ◌^◌, ◌==◌, ◌&&◌, ◌||◌, Bool, true, List, [], ◌∷◌, length, nat_lt, nat_le}
 use Rattle.frame_specs.specs.Frame.{Frame, is_well_formed}
-use Rattle.log_specs.specs.Line.{Line, On, Down, Over, End, Told, Req, Full, Drop, Keep, Discard, Wake, Sleep, Rate, FdRate, Status, State, FormatError, Bad, ToldLost, ToldFormat, ToldWake, Back, Start, LostKept, LostGone, Done, Fail, Hurt}
+use Rattle.log_specs.specs.Line.{Line, On, Down, Over, End, Told, Req, Full, Drop, Rate, FdRate, FormatError, Bad, ToldLost, ToldFormat, Start, LostKept, LostGone, Done, Fail, Hurt}
 
 -- the numbers rise without repeats, from this one on
 abbrev pub rise_from : ℕ → List ℕ → Bool

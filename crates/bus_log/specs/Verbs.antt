@@ -1,5 +1,5 @@
 -- The words that say what a line of a bus tells.
-use Rattle.std.specs.Prelude.{ℕ, List, [], ◌∷◌, Option, Some, None, codes, bytes_eq, find}
+use Rattle.std.specs.Prelude.{ℕ, List, [], ◌∷◌, Option, codes, bytes_eq, find}
 use Rattle.bus_log.specs.declared.verb.Verb.{Verb}
 use Rattle.bus_log.specs.declared.verb.Verb.TheVariants.{Req, Full, Drop, Keep, Discard, Wake, Sleep, Rate, FdRate, Status, State, FormatError, Bad, Told, Back, Start, Lost, Done, Fail, Hurt}
 

@@ -13,7 +13,9 @@ mod told;
 mod verb;
 mod words;
 
-pub use laws::{a_printed_line_is_read_back, a_text_is_that_of_one_line, every_text_has_one_answer};
+pub use laws::{
+    a_printed_line_is_read_back, a_text_is_that_of_one_line, every_text_has_one_answer,
+};
 pub use line::Line;
 pub use line_list::LineList;
 pub use printing::print_line;
