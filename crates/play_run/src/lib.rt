@@ -8,6 +8,8 @@ mod play;
 mod playing;
 mod runner;
 mod script;
+#[cfg(test)]
+mod tests;
 mod writing;
 
 pub use emission::Emission;
