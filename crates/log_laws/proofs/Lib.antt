@@ -20,4 +20,5 @@ pub mod Runs
 pub mod Endings
 pub mod Timed
 pub mod Left
+pub mod Answered
 pub mod Played

@@ -29,9 +29,9 @@ use Rattle.log_laws.proofs.Played.{RunWorld, own-start, after-sound, opening-sou
 use Rattle.log_laws.proofs.Followed.{all-pairs, event-goes, opening-agrees}
 
 -- what happens next comes before all that is due and asked
-record Before (w : World) (d : Due) : Type 0 where
-  due : IfSome (next_due w.bus w.now) (λ c. d.moment ≤ c.moment)
-  asked : Rising w.now w.ahead → Rising d.moment w.ahead
+pub record Before (w : World) (d : Due) : Type 0 where
+  pub due : IfSome (next_due w.bus w.now) (λ c. d.moment ≤ c.moment)
+  pub asked : Rising w.now w.ahead → Rising d.moment w.ahead
 
 pub no-later : (x c : Due) → precedes x c ≡ true → x.moment ≤ c.moment
 no-later x c h = go (or_cases (nat_lt x.moment c.moment) ((x.moment == c.moment) && nat_lt (rank x.what) (rank c.what)) h)
@@ -40,7 +40,7 @@ no-later x c h = go (or_cases (nat_lt x.moment c.moment) ((x.moment == c.moment)
     go (inl e) = let l = ltb-true x.moment c.moment e in omega (arith, l)
     go (inr e) = let s = eqb-true x.moment c.moment (and_parts (x.moment == c.moment) (nat_lt (rank x.what) (rank c.what)) e).0 in omega (arith, s)
 
-before-all : (stop : ℕ) (w : World) (d : Due) → next_event stop w ≡ Some d → Before w d
+pub before-all : (stop : ℕ) (w : World) (d : Due) → next_event stop w ≡ Some d → Before w d
 unfolding next_event
 before-all stop w d e = asks w.ahead refl (next_due w.bus w.now) refl (below (or_asked (next_due w.bus w.now) w.ahead) e)
   where
@@ -81,7 +81,7 @@ before-all stop w d e = asks w.ahead refl (next_due w.bus w.now) refl (below (or
             by m (inr l) = omega (arith, l.0, m)
 
 -- later actions
-rising-lower : (from to : ℕ) (as' : List Action) → from ≤ to → Rising to as' → Rising from as'
+pub rising-lower : (from to : ℕ) (as' : List Action) → from ≤ to → Rising to as' → Rising from as'
 rising-lower from to [] l h = tt
 rising-lower from to (a ∷ as') l h = (omega (arith, l, h.0), h.1)
 
@@ -93,9 +93,9 @@ rising-filter p from (a ∷ as') h = go (p a) (rising-filter p a.moment as' h.1)
     go true k = (h.0, k)
     go false k = rising-lower from a.moment (filter p as') h.0 k
 
-record InOrder (w : World) : Type 0 where
-  time : InTime w.now w.bus
-  ahead : Rising w.now w.ahead
+pub record InOrder (w : World) : Type 0 where
+  pub time : InTime w.now w.bus
+  pub ahead : Rising w.now w.ahead
 
 module _ (p : Scenario) where
   event-in-time : (w : World) (now : ℕ) (what : What) → InTime now w.bus → InTime now (event_step w now what).0
@@ -125,7 +125,7 @@ module _ (p : Scenario) where
       go (inr k) = let l = first w.ahead k.action k.rest k.ahead o.ahead in
           let m : d.moment ≡ k.action.moment = ap (λ (x : Due). x.moment) k.due in omega (arith, l, m)
 
-  stays-in-order : (w : World) (d : Due) → next_event p.stop w ≡ Some d → InOrder w → InOrder (world_behind w d).0
+  pub stays-in-order : (w : World) (d : Due) → next_event p.stop w ≡ Some d → InOrder w → InOrder (world_behind w d).0
   stays-in-order w d e o = let b = before-all p.stop w d e in record {
     time = event-in-time w d.moment d.what (later w.bus w.now d.moment b.due);
     ahead = left-rising w d.moment d.what (b.asked o.ahead);
@@ -135,7 +135,7 @@ module _ (p : Scenario) where
   all-enter-time [] b t = t
   all-enter-time (n ∷ ns) b t = all-enter-time ns (enter b n) (enter-in-time 0 b n t)
 
-  opening-in-order : ByMoment p → InOrder (opening p)
+  pub opening-in-order : ByMoment p → InOrder (opening p)
   opening-in-order h = record { time = all-enter-time p.nodes (new_bus p.setup p.nodes) (new_bus-in-time p.setup p.nodes); ahead = h }
 
 -- lines no earlier than this and than those before them

@@ -6,4 +6,5 @@ pub mod Losers
 pub mod Queues
 pub mod Accounts
 pub mod Moments
+pub mod Answers
 pub mod WrongLogs
