@@ -1,13 +1,13 @@
 -- Each action up to the stop is answered by a line, in order, and no line answers anything else.
-use Rattle.std.proofs.Common.{◌≡◌, ℕ, zero, suc, ◌+◌, ◌<◌, ◌≤◌, ◌==◌, ◌⊎◌, Bool, true, false, cond, if◌then◌else◌, List, [], ◌∷◌, ◌++◌, map, filter, filter_map, flat_map, fold, IfSome, Option, Some, None, arith, refl, ap, ◌∙◌, sym, subst, inl, inr, append_assoc, append-nil}
+use Rattle.std.proofs.Common.{◌≡◌, ℕ, zero, suc, ◌<◌, ◌≤◌, ◌==◌, ◌⊎◌, Bool, true, false, if◌then◌else◌, List, [], ◌∷◌, ◌++◌, map, filter, flat_map, fold, Option, Some, None, arith, refl, ap, ◌∙◌, sym, inl, inr, append_assoc, append-nil}
 use Rattle.std.specs.Prelude.{option_map, option_to_list, nat_le, nat_lt}
-use Rattle.std.proofs.lemmas.Bool.{both_ways, eqb-true, ne_eqb, eq-eqb, ltb-true, ltb-false, lt-ltb, leb-true, leb-false, le-leb, false_from_ne_true}
+use Rattle.std.proofs.lemmas.Bool.{both_ways, eqb-true, eq-eqb, ltb-true, lt-ltb, leb-true, leb-false, le-leb, false_from_ne_true}
 use Rattle.std.proofs.lemmas.List.Elements.{filter_map-append}
-use Rattle.bus_specs.specs.Bus.{Bus, Setup, Member, Request, Running, Fault, Hurt, LostNotice, FormatNotice, winner}
+use Rattle.bus_specs.specs.Bus.{Bus, Member, Request, Running, Fault, Hurt, LostNotice, FormatNotice, winner}
 use Rattle.bus_specs.specs.Counters.{level}
 use Rattle.bus_specs.specs.Submit.{Submission, Transmit, Keep, Discard, Wakeup, Sleep, Rate, FdRate, Declare, FormatError, Unfit, Fate, Accepted, Full, Dropped, fate, submit, submission_of, told_of, told_fate}
 use Rattle.bus_specs.specs.Inbox.{take_inbox, members_at, told_notices, due_lost, due_format, due_wake}
-use Rattle.bus_specs.specs.Start.{losers, discards, loser_told, start_lines, start_with, start}
+use Rattle.bus_specs.specs.Start.{losers, discards, loser_told, start_with, start}
 use Rattle.bus_specs.specs.Finish.{finish, finish_with, outcome_line, hurt_lines, state_lines, same_level, counters_after, recover}
 use Rattle.bus_specs.specs.Due.{Due, What, Finish, Return, Notices, Start, rank, precedes, at, next_due}
 use Rattle.frame_specs.specs.Frame.{Frame}
@@ -26,7 +26,7 @@ use Rattle.log_laws.proofs.Played.{RunBus, RunWorld, steady, take-steady, action
 use Rattle.log_laws.proofs.Followed.{all-pairs}
 use Rattle.log_laws.specs.Scenarios.{Acts, IsScenario}
 use Rattle.log_laws.specs.Moments.{Rising, ByMoment}
-use Rattle.log_laws.specs.Answers.{Asked, asked_by, asked_at, asked_in, answered, asked_of, due_actions}
+use Rattle.log_laws.specs.Answers.{Asked, asked_by, asked_in, answered, asked_of, due_actions}
 
 none-append : (xs ys : List Line) → answered xs ≡ [] → answered ys ≡ [] → answered (xs ++ ys) ≡ []
 none-append xs ys h k = filter_map-append asked_in xs ys ∙ ap (λ l. l ++ answered ys) h ∙ k
@@ -83,8 +83,8 @@ module _ (b : Bus) (now : ℕ) where
 
   three-none : (node : ℕ) (l : Option LostNotice) (f : Option FormatNotice) (w : Option ℕ)
       → answered (map (On now b.setup.number node) (option_to_list (option_map (λ (n : LostNotice). log.ToldLost n.id) l)
-        ++ option_to_list (option_map (λ (n : FormatNotice). log.ToldFormat n.bytes) f)
-        ++ option_to_list (option_map (λ (n : ℕ). log.ToldWake) w))) ≡ []
+      ++ option_to_list (option_map (λ (n : FormatNotice). log.ToldFormat n.bytes) f)
+      ++ option_to_list (option_map (λ (n : ℕ). log.ToldWake) w))) ≡ []
   three-none node None None None = refl
   three-none node None None (Some w) = refl
   three-none node None (Some f) None = refl

@@ -1,5 +1,5 @@
 -- The wrong logs break the laws.
-use Rattle.std.proofs.Common.{◌≡◌, ℕ, ◌+◌, ◌≤◌, Bool, true, false, List, [], ◌∷◌, ◌++◌, All, length, Option, Some, None, arith, refl, sym, ap, ◌∙◌, subst, inl, inr}
+use Rattle.std.proofs.Common.{◌≡◌, ℕ, ◌+◌, ◌≤◌, true, false, List, [], ◌∷◌, ◌++◌, All, length, Some, None, arith, refl, sym, ap, ◌∙◌, subst, inl, inr}
 use Rattle.std.proofs.lemmas.List.Elements.{All-head}
 use Rattle.std.proofs.lemmas.Bool.{both_ways}
 use Rattle.frame_specs.specs.Frame.{Frame}
@@ -7,7 +7,7 @@ use Rattle.frame_specs.specs.Dominance.{beats}
 use Rattle.frame_specs.specs.Wire.{duration, stuffed, stuff}
 use Rattle.run_specs.specs.Order.{IsForemost}
 use Rattle.bus_specs.specs.Waits.{Waiting}
-use Rattle.log_specs.specs.Line.{Line, On, End, LostKept, LostGone, Req, Discard, Done, Hurt}
+use Rattle.log_specs.specs.Line.{Line, End, LostKept, LostGone, Req, Discard, Done, Hurt}
 use Rattle.bus_sound.proofs.Lists.{each-All}
 use Rattle.log_laws.specs.Starts.{stronger, StartsAreForemost, StartersTakePart, StartsWhereFree, StartsArePrompt}
 use Rattle.log_laws.specs.Mirror.{Mirror, OnWire, mirror}

@@ -1,24 +1,23 @@
 -- Along a run moments never fall.
-use Rattle.std.proofs.Common.{◌≡◌, ℕ, zero, suc, ◌+◌, ◌<◌, ◌≤◌, ◌==◌, ◌⊎◌, Bool, true, false, cond, if◌then◌else◌, List, [], ◌∷◌, ◌++◌, filter, fold, IfSome, Option, Some, None, arith, refl, ap, ◌∙◌, sym, subst, inl, inr}
+use Rattle.std.proofs.Common.{◌≡◌, ℕ, zero, suc, ◌<◌, ◌≤◌, ◌==◌, ◌⊎◌, Bool, true, false, cond, if◌then◌else◌, List, [], ◌∷◌, ◌++◌, filter, fold, IfSome, Option, Some, None, arith, refl, ap, ◌∙◌, sym, subst, inl, inr}
 use Rattle.std.specs.Prelude.{◌&&◌, nat_le, nat_lt, option_map, ⊤}
 use Rattle.std.proofs.lemmas.Bool.{and_parts, or_cases, eqb-true, ltb-true}
 use Rattle.std.proofs.lemmas.List.Sums.{fold-append}
 use Rattle.bus_specs.specs.Bus.{Bus, Setup, new_bus}
 use Rattle.bus_specs.specs.Inbox.{enter, take_inbox}
-use Rattle.bus_specs.specs.Submit.{submit, submission_of}
+use Rattle.bus_specs.specs.Submit.{submission_of}
 use Rattle.bus_specs.specs.Due.{Due, What, Finish, Return, Notices, Start, rank, precedes, at, next_due}
 use Rattle.bus_specs.specs.InTime.{InTime}
-use Rattle.run_specs.specs.Order.{better_of}
-use Rattle.log_specs.specs.Line.{Line, On, Down, Over, End, Told}
+use Rattle.log_specs.specs.Line.{Line, On, Down, Over, End}
 use Rattle.run_specs.specs.Run.{behind, head, then_from}
-use Rattle.play_specs.specs.Scenario.{Action, Scenario, World, opening, or_asked, up_to, next_event, along, takers, action_step, moment_step, event_step, left_ahead, world_behind, status, machine, scenario_lines}
-use Rattle.bus_sound.proofs.Among.{Among, filter-among}
+use Rattle.play_specs.specs.Scenario.{Action, Scenario, World, opening, or_asked, up_to, next_event, along, takers, action_step, event_step, left_ahead, world_behind, status, machine, scenario_lines}
+use Rattle.bus_sound.proofs.Among.{filter-among}
 use Rattle.bus_sound.proofs.Dues.{not-before}
 use Rattle.bus_sound.proofs.Timed.{new_bus-in-time, enter-in-time, submit-in-time, take-in-time, start-in-time, finish-in-time, recover-in-time, next-in-time}
 use Rattle.bus_sound.proofs.Later.{later}
 use Rattle.log_laws.specs.Scenarios.{IsScenario}
 use Rattle.log_laws.specs.Mirror.{Mirror, new_mirror}
-use Rattle.log_laws.specs.Starts.{moment_after, last_moment}
+use Rattle.log_laws.specs.Starts.{moment_after}
 use Rattle.log_laws.specs.Moments.{Rising, ByMoment, MomentsNeverFall}
 use Rattle.log_laws.proofs.Lawful.{Agrees, follow}
 use Rattle.log_laws.proofs.Known.{Offered}

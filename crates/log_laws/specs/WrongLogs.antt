@@ -1,12 +1,12 @@
 -- Logs that no bus has, each wrong in one thing.
-use Rattle.std.specs.Prelude.{◌≡◌, refl, ℕ, Bool, true, false, List, [], ◌∷◌, ◌++◌, None}
+use Rattle.std.specs.Prelude.{◌≡◌, refl, ℕ, false, List, [], ◌∷◌, ◌++◌, None}
 use Rattle.frame_specs.specs.Frame.{Frame, Data}
 use Rattle.frame_specs.specs.Wire.{duration, stuffed, stuff}
 use Rattle.operation_specs.specs.Operation.{Off, Transmit}
 use Rattle.operation_specs.specs.Reading.{Op}
 use Rattle.bus_specs.specs.Bus.{Setup}
 use Rattle.play_specs.specs.Scenario.{Scenario}
-use Rattle.log_specs.specs.Line.{Line, On, End, Told, Req, Full, Drop, Start, LostKept, LostGone, Discard, Sleep, State, Done, Fail, Hurt}
+use Rattle.log_specs.specs.Line.{Line, On, End, Told, Req, Full, Start, LostKept, LostGone, Discard, Sleep, State, Done, Fail, Hurt}
 
 -- 1,000 ticks a bit
 abbrev pub plain : Setup
