@@ -120,10 +120,10 @@ finish-due b since d h k = go b.running refl (foremost-among precedes (dues b si
         let q : 2 ≡ rank d.what = ap (λ (x : Due). rank x.what) i.2 in absurd (omega (arith, q, zero-rank))
 
 -- where notices are due, a member has one
-record Noticed (b : Bus) (now : ℕ) : Type 0 where
-  member : Member
-  among : Among b.members member
-  has : has_notice now member ≡ true
+pub record Noticed (b : Bus) (now : ℕ) : Type 0 where
+  pub member : Member
+  pub among : Among b.members member
+  pub has : has_notice now member ≡ true
 
 due-some : {A : Type 0} (when : A → ℕ) (now : ℕ) (o : Option A) → Among (option_to_list (option_map when o)) now → is_some (due when now o) ≡ true
 due-some when now None a = absurd a
@@ -163,7 +163,7 @@ in-notices b d a =
     let f = flat_map-among notice_moments b.members r.0 r.1 in
     record { member = f.0; among = f.1; has = notice-there d.moment f.0 (subst (Among (notice_moments f.0)) (ap (λ (x : Due). x.moment) r.2) f.2) }
 
-notices-due : (b : Bus) (since : ℕ) (d : Due) → next_due b since ≡ Some d → d.what ≡ Notices → Noticed b d.moment
+pub notices-due : (b : Bus) (since : ℕ) (d : Due) → next_due b since ≡ Some d → d.what ≡ Notices → Noticed b d.moment
 unfolding next_due
 notices-due b since d h k = go b.running (foremost-among precedes (dues b since b.running) d h)
   where

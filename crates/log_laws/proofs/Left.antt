@@ -58,7 +58,7 @@ due-after b since stop h x a = go (foremost precedes (dues b since b.running)) r
         by (inr l) = omega (arith, l.0, k)
 
 -- the last line of two lists
-last-same : {X : Type 0} (xs ys : List X) (x y : X) → xs ++ x ∷ [] ≡ ys ++ y ∷ [] → (xs ≡ ys) × (x ≡ y)
+pub last-same : {X : Type 0} (xs ys : List X) (x y : X) → xs ++ x ∷ [] ≡ ys ++ y ∷ [] → (xs ≡ ys) × (x ≡ y)
 last-same [] [] x y e = (refl, cc)
 last-same [] (z ∷ []) x y e = absurd cc
 last-same [] (z ∷ w ∷ ys) x y e = absurd cc

@@ -21,4 +21,6 @@ pub mod Endings
 pub mod Timed
 pub mod Left
 pub mod Answered
+pub mod Freshness
+pub mod EventCount
 pub mod Played

@@ -84,7 +84,7 @@ pub rising-lower : (from to : ℕ) (as' : List Action) → from ≤ to → Risin
 rising-lower from to [] l h = tt
 rising-lower from to (a ∷ as') l h = (omega (arith, l, h.0), h.1)
 
-rising-filter : (p : Action → Bool) (from : ℕ) (as' : List Action) → Rising from as' → Rising from (filter p as')
+pub rising-filter : (p : Action → Bool) (from : ℕ) (as' : List Action) → Rising from as' → Rising from (filter p as')
 rising-filter p from [] h = tt
 rising-filter p from (a ∷ as') h = go (p a) (rising-filter p a.moment as' h.1)
   where

@@ -7,4 +7,5 @@ pub mod Queues
 pub mod Accounts
 pub mod Moments
 pub mod Answers
+pub mod Events
 pub mod WrongLogs
