@@ -16,6 +16,7 @@ use Rattle.log_laws.specs.Losers.{LosersAreTold, LossesStandBehindStarts, Discar
 use Rattle.log_laws.specs.Queues.{RequestsFit}
 use Rattle.log_laws.specs.Moments.{MomentsNeverFall, LinesAreOf, EndsWith, NothingIsLeft}
 use Rattle.log_laws.specs.Accounts.{NothingIsForgotten}
+use Rattle.log_laws.specs.Events.{EndTellsEvents}
 use Rattle.log_laws.specs.Answers.{Asked, AnswersAll}
 use Rattle.bus_specs.specs.Submit.{Transmit, submission_of}
 use Rattle.log_laws.specs.WrongLogs
@@ -184,3 +185,6 @@ pub unanswered-refused : AnswersAll WrongLogs.one_asks WrongLogs.unanswered → 
 unfolding submission_of
 unanswered-refused h =
     let k : ◌≡◌ {A = List Asked} [] (record { moment = 0; node = 0; what = Transmit (WrongLogs.frame 5 1) } ∷ []) = h in absurd cc
+
+pub no-events-refused : EndTellsEvents WrongLogs.wrong_end → ⊥
+no-events-refused h = let k : ◌≡◌ {A = ℕ} 0 1 = h WrongLogs.one_waits 0 0 refl in omega (arith, k)

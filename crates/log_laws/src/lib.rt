@@ -3,7 +3,7 @@
 //! from the lines before it.
 #![tactic(auto)]
 
-ghost use Rattle.std.specs.Prelude.{◌≡◌, ℕ};
+ghost use Rattle.std.specs.Prelude.{◌≡◌, ◌≤◌, ℕ};
 ghost use Rattle.play_specs.specs.Scenario.{Scenario, scenario_lines, scenario_status};
 ghost use Rattle.log_laws.specs.Scenarios.{IsScenario};
 ghost use Rattle.log_laws.specs.Starts.{StartsAreForemost, StartersTakePart, StartsWhereFree, StartsArePrompt};
@@ -13,6 +13,7 @@ ghost use Rattle.log_laws.specs.Queues.{RequestsFit};
 ghost use Rattle.log_laws.specs.Accounts.{NothingIsForgotten};
 ghost use Rattle.log_laws.specs.Moments.{ByMoment, MomentsNeverFall, LinesAreOf, EndsWith, GoesOn, NothingIsLeft};
 ghost use Rattle.log_laws.specs.Answers.{AnswersAll};
+ghost use Rattle.log_laws.specs.Events.{EndTellsEvents};
 ghost use Rattle.log_laws.specs.WrongLogs as wrong;
 
 /// A start is of the frame that wins among what waits of the nodes able to start: those that are awake
@@ -82,6 +83,10 @@ pub fn moments_never_fall()
 pub fn each_log_ends_with_its_status()
     ensures ends { (budget : ℕ) (p : Scenario) → IsScenario p → EndsWith (scenario_status budget p) budget (scenario_lines budget p) }
     ensures goes_on { (budget more : ℕ) (p : Scenario) → GoesOn budget more p }
+
+    // Where a bit takes a tick at least, the number is that of starts, ends, returns and moments with
+    // lines of nodes.
+    ensures events { (budget : ℕ) (p : Scenario) → IsScenario p → ByMoment p → 1 ≤ p.setup.nominal → EndTellsEvents (scenario_lines budget p) }
 {}
 
 /// Where a run ends with status 0, its log answers each action up to the stop, in their order, and
@@ -116,6 +121,7 @@ pub fn wrong_logs_are_refused()
     ensures forgotten { NothingIsForgotten wrong.plain wrong.nodes wrong.delivered_twice → ⊥ }
     ensures after_stop { LinesAreOf wrong.empty wrong.after_stop → ⊥ }
     ensures wrong_end { EndsWith 8 1 wrong.wrong_end → ⊥ }
+    ensures no_events { EndTellsEvents wrong.wrong_end → ⊥ }
     ensures unanswered { AnswersAll wrong.one_asks wrong.unanswered → ⊥ }
     ensures left_undone { NothingIsLeft wrong.empty wrong.left_undone → ⊥ }
 {}
