@@ -1,10 +1,10 @@
 -- The end line tells as many events as stand before it.
-use Rattle.std.proofs.Common.{◌≡◌, ℕ, zero, suc, ◌+◌, ◌<◌, ◌≤◌, ◌==◌, ◌⊎◌, Bool, true, false, cond, if◌then◌else◌, List, [], ◌∷◌, ◌++◌, map, filter, flat_map, fold, IfSome, Option, Some, None, is_some, arith, refl, ap, ◌∙◌, sym, subst, inl, inr, eq-eqb}
+use Rattle.std.proofs.Common.{◌≡◌, ℕ, zero, suc, ◌+◌, ◌≤◌, ◌==◌, ◌⊎◌, Bool, true, false, cond, if◌then◌else◌, List, [], ◌∷◌, ◌++◌, map, filter, flat_map, fold, IfSome, Option, Some, None, is_some, arith, refl, ap, ◌∙◌, sym, subst, inl, inr, eq-eqb}
 use Rattle.std.specs.Prelude.{option_map, option_to_list, nat_lt, ⊤}
 use Rattle.std.proofs.lemmas.Bool.{both_ways, eqb-true, ltb-true, false_from_ne_true}
 use Rattle.std.proofs.lemmas.List.Sums.{fold-append}
 use Rattle.frame_specs.specs.Frame.{Frame}
-use Rattle.bus_specs.specs.Bus.{Bus, Setup, Member, Request, Running, Fault, Hurt, LostNotice, FormatNotice, winner, is}
+use Rattle.bus_specs.specs.Bus.{Bus, Member, Request, Running, Fault, Hurt, LostNotice, FormatNotice, winner, is}
 use Rattle.bus_specs.specs.Counters.{level}
 use Rattle.bus_specs.specs.Submit.{Submission, Transmit, Keep, Discard, Wakeup, Sleep, Rate, FdRate, Declare, FormatError, Unfit, Fate, Accepted, Full, Dropped, fate, submit, submission_of, told_of, told_fate}
 use Rattle.bus_specs.specs.Inbox.{take_inbox, members_at, told_notices, due_lost, due_format, due_wake, has_notice}
@@ -23,8 +23,8 @@ use Rattle.log_laws.specs.Scenarios.{Acts, IsScenario}
 use Rattle.log_laws.specs.Moments.{Rising, ByMoment}
 use Rattle.log_laws.specs.Events.{Count, one_event, lines_at, count_told, count_line, events_in, EndTellsEvents}
 use Rattle.log_laws.proofs.Moments.{Some_lines}
-use Rattle.log_laws.proofs.Due.{Asked, due-or-asked, finish-due, notices-due, Noticed, event-some}
-use Rattle.log_laws.proofs.Timed.{InOrder, stays-in-order, opening-in-order, rising-lower, rising-filter}
+use Rattle.log_laws.proofs.Due.{Asked, due-or-asked, finish-due, notices-due, event-some}
+use Rattle.log_laws.proofs.Timed.{InOrder, stays-in-order, opening-in-order, rising-filter}
 use Rattle.log_laws.proofs.Left.{last-same}
 use Rattle.log_laws.proofs.Played.{RunBus, RunWorld, steady, take-steady, action_step-sound, after-sound, opening-sound}
 use Rattle.log_laws.proofs.Followed.{all-pairs}
@@ -91,8 +91,8 @@ counts-one c now (line ∷ lines) o s h =
 module _ (b : Bus) (now : ℕ) where
   three-nodes : (node : ℕ) (l : Option LostNotice) (f : Option FormatNotice) (w : Option ℕ)
       → NodeLines now (map (On now b.setup.number node) (option_to_list (option_map (λ (n : LostNotice). log.ToldLost n.id) l)
-        ++ option_to_list (option_map (λ (n : FormatNotice). log.ToldFormat n.bytes) f)
-        ++ option_to_list (option_map (λ (n : ℕ). log.ToldWake) w)))
+      ++ option_to_list (option_map (λ (n : FormatNotice). log.ToldFormat n.bytes) f)
+      ++ option_to_list (option_map (λ (n : ℕ). log.ToldWake) w)))
   three-nodes node None None None = tt
   three-nodes node None None (Some w) = ((refl, refl), tt)
   three-nodes node None (Some f) None = ((refl, refl), tt)
@@ -286,7 +286,7 @@ module _ (p : Scenario) (bit : 1 ≤ p.setup.nominal) where
     where
       go : (u : Option Due) → next_event p.stop w ≡ u
           → ((v : World) (x : Count) → RunWorld p v → InOrder v → Closed x v
-            → (fold count_line x (head (machine p.stop) k v)).events + v.events ≡ (behind (machine p.stop) k v).events + x.events)
+          → (fold count_line x (head (machine p.stop) k v)).events + v.events ≡ (behind (machine p.stop) k v).events + x.events)
           → (fold count_line c (then_from [] (λ x. x.1 ++ head (machine p.stop) k x.0) (option_map (world_behind w) u))).events + w.events
           ≡ (then_from w (λ x. behind (machine p.stop) k x.0) (option_map (world_behind w) u)).events + c.events
       go None e on = omega arith

@@ -1,14 +1,14 @@
 -- Behind the lines of a moment no notice is due at it.
-use Rattle.std.proofs.Common.{◌≡◌, ℕ, ◌+◌, ◌*◌, ◌<◌, ◌≤◌, ◌==◌, ◌⊎◌, Bool, true, false, if◌then◌else◌, List, [], ◌∷◌, ◌++◌, map, filter, fold, Option, Some, None, is_some, arith, refl, ap, ◌∙◌, sym, subst, inl, inr, eq-eqb}
+use Rattle.std.proofs.Common.{◌≡◌, ℕ, ◌+◌, ◌<◌, ◌≤◌, ◌==◌, ◌⊎◌, Bool, true, false, if◌then◌else◌, List, [], ◌∷◌, map, filter, fold, Option, Some, None, is_some, arith, refl, sym, subst, inl, inr, eq-eqb}
 use Rattle.std.specs.Prelude.{◌||◌, nat_le}
-use Rattle.std.proofs.lemmas.Bool.{both_ways, or_parts, or_from, eqb-true, leb-true, false_from_ne_true}
-use Rattle.bus_specs.specs.Bus.{Bus, Member, LostNotice, FormatNotice, bits, with_member}
-use Rattle.bus_specs.specs.Submit.{Submission, Transmit, Keep, Discard, Wakeup, Sleep, Rate, FdRate, Declare, FormatError, Unfit, Fate, Accepted, Full, Dropped, fate, with_request, submit, submission_of, member_after_wakeup, wake_notice, format_notice}
+use Rattle.std.proofs.lemmas.Bool.{both_ways, or_parts, or_from, leb-true, false_from_ne_true}
+use Rattle.bus_specs.specs.Bus.{Bus, Member, LostNotice, FormatNotice, bits}
+use Rattle.bus_specs.specs.Submit.{Submission, Transmit, Keep, Discard, Wakeup, Sleep, Rate, FdRate, Declare, FormatError, Unfit, Fate, Accepted, Full, Dropped, fate, with_request, submit, member_after_wakeup, wake_notice, format_notice}
 use Rattle.bus_specs.specs.Inbox.{take_inbox, member_after_inbox, due, later_part, due_lost, due_format, due_wake, has_notice}
 use Rattle.frame_specs.specs.Frame.{Frame}
 use Rattle.log_specs.specs.Line.{Line}
-use Rattle.play_specs.specs.Scenario.{Action, World, along, takers, action_step, moment_step}
-use Rattle.bus_sound.proofs.Among.{Among, filter-among, among-filter}
+use Rattle.play_specs.specs.Scenario.{along, takers}
+use Rattle.bus_sound.proofs.Among.{Among, among-filter}
 use Rattle.bus_sound.proofs.Lists.{among-map, map-among}
 use Rattle.bus_sound.proofs.Quiet.{one}
 

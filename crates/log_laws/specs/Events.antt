@@ -1,5 +1,5 @@
 -- How many events a log tells of.
-use Rattle.std.specs.Prelude.{◌≡◌, ℕ, ◌+◌, Bool, true, false, List, [], ◌∷◌, ◌++◌, fold, Option, Some, None, if◌then◌else◌}
+use Rattle.std.specs.Prelude.{◌≡◌, ℕ, ◌+◌, List, [], ◌∷◌, ◌++◌, fold, Option, Some, None, if◌then◌else◌}
 use Rattle.bus_specs.specs.Bus.{is}
 use Rattle.log_specs.specs.Line.{Line, On, Down, Over, End, Told, Start, LostKept, LostGone, Back, State, Done, Fail, Hurt}
 
