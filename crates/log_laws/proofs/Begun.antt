@@ -157,7 +157,7 @@ module _ (b : Bus) (now : ℕ) (w : Request) where
   frame-ends hurt [] = (ack_place w.frame, omega arith)
   frame-ends hurt (n ∷ ns) = refl
 
-  course-ends : EndsBy b.setup now w.frame (course b now w).fault (course b now w).end
+  pub course-ends : EndsBy b.setup now w.frame (course b now w).fault (course b now w).end
   unfolding course
   course-ends = go (entry_of_attempt b w.node heard)
     where

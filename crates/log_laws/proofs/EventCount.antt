@@ -31,7 +31,7 @@ use Rattle.log_laws.proofs.Followed.{all-pairs}
 use Rattle.log_laws.proofs.Freshness.{NoNotice, takes-fewer, all-take, submit-none}
 
 -- a line of a node at this moment
-abbrev tells_node : Told → Bool
+abbrev pub tells_node : Told → Bool
 tells_node (log.Start f) = false
 tells_node (LostKept f) = false
 tells_node (LostGone f) = false
@@ -42,13 +42,13 @@ tells_node (log.State l) = false
 tells_node log.Back = false
 tells_node other = true
 
-abbrev IsNodeLine : ℕ → Line → Type 0
+abbrev pub IsNodeLine : ℕ → Line → Type 0
 IsNodeLine now (On t bus node told) = (t ≡ now) × (tells_node told ≡ true)
 IsNodeLine now (Down t node cause) = ⊥
 IsNodeLine now (Over t node) = ⊥
 IsNodeLine now (End status events) = ⊥
 
-abbrev NodeLines : ℕ → List Line → Type 0
+abbrev pub NodeLines : ℕ → List Line → Type 0
 NodeLines now [] = ⊤
 NodeLines now (line ∷ lines) = IsNodeLine now line × NodeLines now lines
 
@@ -191,15 +191,15 @@ record Fresh (now : ℕ) (w : World) : Type 0 where
   ahead : Rising (now + 1) w.ahead
 
 module _ (p : Scenario) (bit : 1 ≤ p.setup.nominal) where
-  record Lines (now : ℕ) (q : Bus × List Line) : Type 0 where
-    bus : RunBus p q.0
-    lines : NodeLines now q.1
+  pub record Lines (now : ℕ) (q : Bus × List Line) : Type 0 where
+    pub bus : RunBus p q.0
+    pub lines : NodeLines now q.1
 
-  record Renewed (now : ℕ) (q : Bus × List Line) : Type 0 where
-    lines : Lines now q
-    none : NoNotice now q.0
+  pub record Renewed (now : ℕ) (q : Bus × List Line) : Type 0 where
+    pub lines : Lines now q
+    pub none : NoNotice now q.0
 
-  moment-renews : (w : World) (now : ℕ) → RunWorld p w → Renewed now (moment_step w now)
+  pub moment-renews : (w : World) (now : ℕ) → RunWorld p w → Renewed now (moment_step w now)
   moment-renews w now h =
       let taken = all-pairs (Lines now) (λ b node. take_inbox b now node) (takers w.bus now) (w.bus, [])
       (λ q n k c. record {

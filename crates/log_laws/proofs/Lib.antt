@@ -23,4 +23,7 @@ pub mod Left
 pub mod Answered
 pub mod Freshness
 pub mod EventCount
+pub mod KindOrder
+pub mod KindLaw
+pub mod Ranks
 pub mod Played

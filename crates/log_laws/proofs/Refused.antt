@@ -7,7 +7,7 @@ use Rattle.frame_specs.specs.Dominance.{beats}
 use Rattle.frame_specs.specs.Wire.{duration, stuffed, stuff}
 use Rattle.run_specs.specs.Order.{IsForemost}
 use Rattle.bus_specs.specs.Waits.{Waiting}
-use Rattle.log_specs.specs.Line.{Line, End, LostKept, LostGone, Req, Discard, Done, Hurt}
+use Rattle.log_specs.specs.Line.{Line, End, LostKept, LostGone, Req, Discard, Done, Hurt, Start}
 use Rattle.bus_sound.proofs.Lists.{each-All}
 use Rattle.log_laws.specs.Starts.{stronger, StartsAreForemost, StartersTakePart, StartsWhereFree, StartsArePrompt}
 use Rattle.log_laws.specs.Mirror.{Mirror, OnWire, mirror}
@@ -17,6 +17,7 @@ use Rattle.log_laws.specs.Queues.{RequestsFit}
 use Rattle.log_laws.specs.Moments.{MomentsNeverFall, LinesAreOf, EndsWith, NothingIsLeft}
 use Rattle.log_laws.specs.Accounts.{NothingIsForgotten}
 use Rattle.log_laws.specs.Events.{EndTellsEvents}
+use Rattle.log_laws.specs.KindOrder.{KindsInOrder}
 use Rattle.log_laws.specs.Answers.{Asked, AnswersAll}
 use Rattle.bus_specs.specs.Submit.{Transmit, submission_of}
 use Rattle.log_laws.specs.WrongLogs
@@ -188,3 +189,7 @@ unanswered-refused h =
 
 pub no-events-refused : EndTellsEvents WrongLogs.wrong_end → ⊥
 no-events-refused h = let k : ◌≡◌ {A = ℕ} 0 1 = h WrongLogs.one_waits 0 0 refl in omega (arith, k)
+
+pub start-first-refused : KindsInOrder WrongLogs.start_first → ⊥
+start-first-refused h =
+    let k : 3 ≤ 2 = h WrongLogs.one_waits [] 0 1 0 1 1 (Start (WrongLogs.frame 5 1)) (Req (WrongLogs.frame 6 1)) refl in omega (arith, k)

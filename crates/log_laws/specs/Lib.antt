@@ -8,4 +8,5 @@ pub mod Accounts
 pub mod Moments
 pub mod Answers
 pub mod Events
+pub mod KindOrder
 pub mod WrongLogs

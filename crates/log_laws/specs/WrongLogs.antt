@@ -167,3 +167,7 @@ one_asks = record { setup = plain; nodes = nodes; stop = 0; actions = record { m
 
 abbrev pub unanswered : List Line
 unanswered = End 0 0 ∷ []
+
+-- a frame starts before the lines of its moment
+abbrev pub start_first : List Line
+start_first = one_waits ++ on 0 0 (Start (frame 5 1)) ∷ on 0 1 (Req (frame 6 1)) ∷ []

@@ -14,6 +14,7 @@ ghost use Rattle.log_laws.specs.Accounts.{NothingIsForgotten};
 ghost use Rattle.log_laws.specs.Moments.{ByMoment, MomentsNeverFall, LinesAreOf, EndsWith, GoesOn, NothingIsLeft};
 ghost use Rattle.log_laws.specs.Answers.{AnswersAll};
 ghost use Rattle.log_laws.specs.Events.{EndTellsEvents};
+ghost use Rattle.log_laws.specs.KindOrder.{KindsInOrder};
 ghost use Rattle.log_laws.specs.WrongLogs as wrong;
 
 /// A start is of the frame that wins among what waits of the nodes able to start: those that are awake
@@ -75,6 +76,9 @@ pub fn nothing_accepted_is_forgotten()
 pub fn moments_never_fall()
     ensures later { (budget : ℕ) (p : Scenario) → IsScenario p → ByMoment p → MomentsNeverFall (scenario_lines budget p) }
     ensures own { (budget : ℕ) (p : Scenario) → IsScenario p → LinesAreOf p (scenario_lines budget p) }
+
+    // At one moment a frame ends, nodes return, lines of nodes come, a frame starts, in this order.
+    ensures kinds { (budget : ℕ) (p : Scenario) → IsScenario p → 1 ≤ p.setup.nominal → KindsInOrder (scenario_lines budget p) }
 {}
 
 /// The last line of a log, and no other, tells the status and the number of events. The status is 8
@@ -121,6 +125,7 @@ pub fn wrong_logs_are_refused()
     ensures forgotten { NothingIsForgotten wrong.plain wrong.nodes wrong.delivered_twice → ⊥ }
     ensures after_stop { LinesAreOf wrong.empty wrong.after_stop → ⊥ }
     ensures wrong_end { EndsWith 8 1 wrong.wrong_end → ⊥ }
+    ensures start_first { KindsInOrder wrong.start_first → ⊥ }
     ensures no_events { EndTellsEvents wrong.wrong_end → ⊥ }
     ensures unanswered { AnswersAll wrong.one_asks wrong.unanswered → ⊥ }
     ensures left_undone { NothingIsLeft wrong.empty wrong.left_undone → ⊥ }

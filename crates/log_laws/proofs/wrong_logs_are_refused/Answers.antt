@@ -1,4 +1,4 @@
-use Rattle.log_laws.proofs.Refused.{latest-refused, beaten-refused, higher-refused, sleeping-sender-refused, early-refused, sleeping-receiver-refused, hurt-receiver-refused, missed-receiver-refused, delivered-twice-refused, silent-loser-refused, kept-for-discard-refused, loser-of-nothing-refused, accepted-off-refused, full-too-soon-refused, late-end-refused, late-start-refused, falling-moment-refused, failed-other-refused, second-start-refused, discarded-nothing-refused, forgotten-refused, after-stop-refused, wrong-end-refused, left-undone-refused, unanswered-refused, no-events-refused}
+use Rattle.log_laws.proofs.Refused.{latest-refused, beaten-refused, higher-refused, sleeping-sender-refused, early-refused, sleeping-receiver-refused, hurt-receiver-refused, missed-receiver-refused, delivered-twice-refused, silent-loser-refused, kept-for-discard-refused, loser-of-nothing-refused, accepted-off-refused, full-too-soon-refused, late-end-refused, late-start-refused, falling-moment-refused, failed-other-refused, second-start-refused, discarded-nothing-refused, forgotten-refused, after-stop-refused, wrong-end-refused, left-undone-refused, unanswered-refused, no-events-refused, start-first-refused}
 use Rattle.log_laws.proofs.wrong_logs_are_refused.Goals as goal
 
 pub returns-clause-latest_of_equals : goal.returns-clause-latest_of_equals
@@ -78,3 +78,6 @@ returns-clause-unanswered c = unanswered-refused
 
 pub returns-clause-no_events : goal.returns-clause-no_events
 returns-clause-no_events c = no-events-refused
+
+pub returns-clause-start_first : goal.returns-clause-start_first
+returns-clause-start_first c = start-first-refused
