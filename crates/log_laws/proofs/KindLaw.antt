@@ -1,16 +1,16 @@
 -- Of two events at one moment the second is of no earlier kind, and so are their lines.
-use Rattle.std.proofs.Common.{◌≡◌, ℕ, zero, suc, ◌+◌, ◌*◌, ◌<◌, ◌≤◌, ◌==◌, ◌⊎◌, Bool, true, false, if◌then◌else◌, List, [], ◌∷◌, ◌++◌, map, filter, fold, flat_map, max, IfSome, Option, Some, None, is_some, arith, refl, ap, ◌∙◌, sym, subst, inl, inr}
-use Rattle.std.specs.Prelude.{◌||◌, option_map, option_to_list, nat_le, ⊤}
-use Rattle.std.proofs.lemmas.Bool.{both_ways, or_from, or_parts, leb-true, false_from_ne_true}
+use Rattle.std.proofs.Common.{◌≡◌, ℕ, ◌+◌, ◌<◌, ◌≤◌, ◌⊎◌, Bool, true, false, if◌then◌else◌, List, [], ◌∷◌, ◌++◌, filter, flat_map, max, IfSome, Option, Some, None, is_some, arith, refl, ap, ◌∙◌, sym, subst, inl, inr}
+use Rattle.std.specs.Prelude.{◌||◌, option_map, option_to_list, nat_le}
+use Rattle.std.proofs.lemmas.Bool.{both_ways, or_from, leb-true, false_from_ne_true}
 use Rattle.frame_specs.specs.Frame.{Frame}
-use Rattle.bus_specs.specs.Bus.{Bus, Setup, Member, Request, Running, Fault, LostNotice, FormatNotice, bits, winner, wants, ready_moment}
-use Rattle.bus_specs.specs.Inbox.{due, due_lost, due_format, due_wake, has_notice}
+use Rattle.bus_specs.specs.Bus.{Bus, Member, Request, Running, Fault, LostNotice, FormatNotice, bits, winner, wants, ready_moment}
+use Rattle.bus_specs.specs.Inbox.{due, due_format, due_wake, has_notice}
 use Rattle.bus_specs.specs.Start.{discarded, lost_by, lost_id, member_after_start, course, running_frame, start_with, start}
-use Rattle.bus_specs.specs.Finish.{recover, return_moment}
+use Rattle.bus_specs.specs.Finish.{recover}
 use Rattle.bus_specs.specs.Due.{Due, What, Finish, Return, Notices, Start, rank, precedes, at, notice_moments, notices, returns, starts, dues, next_due}
-use Rattle.run_specs.specs.Order.{foremost, better_of}
-use Rattle.play_specs.specs.Scenario.{Action, Scenario, World, left_ahead, or_asked, up_to, next_event, moment_step, event_step, world_behind}
-use Rattle.bus_sound.proofs.Among.{Among, filter_map-among, among-append_left}
+use Rattle.run_specs.specs.Order.{foremost}
+use Rattle.play_specs.specs.Scenario.{Action, World, left_ahead, or_asked, up_to, next_event, moment_step, event_step, world_behind}
+use Rattle.bus_sound.proofs.Among.{Among, among-append_left}
 use Rattle.bus_sound.proofs.Lists.{map-among, among-map, append-among, among-append_right, among-flat_map}
 use Rattle.bus_sound.proofs.Orders.{foremost-among, foremost-unbeaten, foremost-some}
 use Rattle.bus_sound.proofs.Dues.{precedes-order, not-before, start-due}
@@ -145,13 +145,13 @@ module _ (stop : ℕ) (w : World) (d : Due) (e : next_event stop w ≡ Some d) (
   started-none : d.what ≡ Start → w.bus.running ≡ None → (rs : List Request) (m : Member) → Among w.bus.members m → has_notice d.moment (member_after_start w.bus d.moment rs m) ≡ false
   started-none q free rs m a =
       let lost = some-later (λ (n : LostNotice). n.due) d.moment m.lost (λ t k. now-notice q m a t
-          (among-append_left (option_to_list (option_map (λ (n : LostNotice). n.due) m.lost) ++ option_to_list (option_map (λ (n : FormatNotice). n.due) m.format)) (option_to_list m.wake) t
-          (among-append_left (option_to_list (option_map (λ (n : LostNotice). n.due) m.lost)) (option_to_list (option_map (λ (n : FormatNotice). n.due) m.format)) t k)) free) in
+      (among-append_left (option_to_list (option_map (λ (n : LostNotice). n.due) m.lost) ++ option_to_list (option_map (λ (n : FormatNotice). n.due) m.format)) (option_to_list m.wake) t
+      (among-append_left (option_to_list (option_map (λ (n : LostNotice). n.due) m.lost)) (option_to_list (option_map (λ (n : FormatNotice). n.due) m.format)) t k)) free) in
       let format = some-later (λ (n : FormatNotice). n.due) d.moment m.format (λ t k. now-notice q m a t
-          (among-append_left (option_to_list (option_map (λ (n : LostNotice). n.due) m.lost) ++ option_to_list (option_map (λ (n : FormatNotice). n.due) m.format)) (option_to_list m.wake) t
-          (among-append_right (option_to_list (option_map (λ (n : LostNotice). n.due) m.lost)) (option_to_list (option_map (λ (n : FormatNotice). n.due) m.format)) t k)) free) in
+      (among-append_left (option_to_list (option_map (λ (n : LostNotice). n.due) m.lost) ++ option_to_list (option_map (λ (n : FormatNotice). n.due) m.format)) (option_to_list m.wake) t
+      (among-append_right (option_to_list (option_map (λ (n : LostNotice). n.due) m.lost)) (option_to_list (option_map (λ (n : FormatNotice). n.due) m.format)) t k)) free) in
       let wake = some-later (λ (n : ℕ). n) d.moment m.wake (λ t k. now-notice q m a t
-          (among-append_right (option_to_list (option_map (λ (n : LostNotice). n.due) m.lost) ++ option_to_list (option_map (λ (n : FormatNotice). n.due) m.format)) (option_to_list m.wake) t (plain m.wake t k)) free) in
+      (among-append_right (option_to_list (option_map (λ (n : LostNotice). n.due) m.lost) ++ option_to_list (option_map (λ (n : FormatNotice). n.due) m.format)) (option_to_list m.wake) t (plain m.wake t k)) free) in
       let new : Option LostNotice = lost_by (d.moment + bits w.bus 1) m.lost (lost_id rs m.node) in
       or_from (is_some (due (λ (n : LostNotice). n.due) d.moment new) || is_some (due_format d.moment m)) (is_some (due_wake d.moment m))
       (or_from (is_some (due (λ (n : LostNotice). n.due) d.moment new)) (is_some (due_format d.moment m))

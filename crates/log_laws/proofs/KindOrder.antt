@@ -1,27 +1,16 @@
 -- At one moment the kinds of events come in their order.
-use Rattle.std.proofs.Common.{◌≡◌, ℕ, zero, suc, ◌+◌, ◌*◌, ◌<◌, ◌≤◌, ◌==◌, ◌⊎◌, Bool, true, false, if◌then◌else◌, List, [], ◌∷◌, ◌++◌, map, filter, filter_map, flat_map, fold, replicate, sum, IfSome, Option, Some, None, is_some, arith, refl, ap, ◌∙◌, sym, subst, inl, inr}
-use Rattle.std.specs.Prelude.{◌||◌, option_map, option_to_list, nat_le, ⊤}
-use Rattle.std.specs.List.{cons_option}
-use Rattle.std.proofs.lemmas.Bool.{both_ways, or_from, leb-true, false_from_ne_true}
+use Rattle.std.proofs.Common.{◌≡◌, ℕ, ◌+◌, ◌*◌, ◌≤◌, ◌==◌, Bool, true, false, if◌then◌else◌, List, [], ◌∷◌, ◌++◌, map, filter, filter_map, fold, replicate, sum, Option, arith, refl, ◌∙◌}
+use Rattle.std.specs.Prelude.{option_map}
 use Rattle.std.proofs.lemmas.List.Sums.{sum_by-append}
 use Rattle.std.proofs.lemmas.List.Folds.{sum_by-replicate}
 use Rattle.frame_specs.specs.Frame.{Frame}
-use Rattle.frame_specs.specs.Wire.{duration, time_of, body_times}
-use Rattle.bus_specs.specs.Bus.{Bus, Setup, Member, Request, Running, Fault, Hurt, LostNotice, FormatNotice, bits, winner, wants, ready_moment}
-use Rattle.bus_specs.specs.Counters.{level}
-use Rattle.bus_specs.specs.Submit.{Submission, Transmit, Keep, Discard, Wakeup, Sleep, Rate, FdRate, Declare, FormatError, Unfit, Fate, Accepted, Full, Dropped, fate, with_request, submit, submission_of, told_of, told_fate, member_after_wakeup, wake_notice, format_notice}
-use Rattle.bus_specs.specs.Inbox.{take_inbox, member_after_inbox, due, due_lost, due_format, due_wake, has_notice}
-use Rattle.bus_specs.specs.Start.{losers, discards, discarded, loser_told, lost_by, lost_id, member_after_start, course, bus_after_start, start_with, start}
-use Rattle.bus_specs.specs.Finish.{finish, finish_with, outcome_line, hurt_lines, state_lines, same_level, counters_after, recover, return_moment}
-use Rattle.bus_specs.specs.Due.{Due, What, Finish, Return, Notices, Start, rank, precedes, at, notice_moments, notices, returns, starts, dues, next_due}
-use Rattle.run_specs.specs.Order.{foremost}
-use Rattle.log_specs.specs.Line.{Line, On, Down, Over, End, Told, LostKept, LostGone}
-use Rattle.log_specs.specs.Line as log
-use Rattle.play_specs.specs.Scenario.{Action, Scenario, World, along, takers, action_step, moment_step, event_step}
-use Rattle.bus_sound.proofs.Among.{Among, filter_map-among, among-append_left}
-use Rattle.bus_sound.proofs.Lists.{map-among, among-map, append-among, among-append_right, among-flat_map}
-use Rattle.bus_sound.proofs.Orders.{foremost-among, foremost-unbeaten, foremost-some}
-use Rattle.bus_sound.proofs.Dues.{precedes-order, not-before, start-due}
+use Rattle.frame_specs.specs.Wire.{duration, body_times}
+use Rattle.bus_specs.specs.Bus.{Bus, Member, bits}
+use Rattle.bus_specs.specs.Submit.{Submission, Transmit, Keep, Discard, Wakeup, Sleep, Rate, FdRate, Declare, FormatError, Unfit, Fate, Accepted, Full, Dropped, fate, with_request, submit, submission_of, member_after_wakeup, wake_notice, format_notice}
+use Rattle.bus_specs.specs.Inbox.{take_inbox, member_after_inbox, due}
+use Rattle.bus_specs.specs.Finish.{return_moment}
+use Rattle.bus_specs.specs.Due.{Due, Return, at, returns}
+use Rattle.play_specs.specs.Scenario.{World, along, takers, action_step, moment_step}
 use Rattle.bus_sound.proofs.Quiet.{one}
 use Rattle.log_laws.proofs.Followed.{all-pairs}
 

@@ -1,7 +1,7 @@
 -- Of two lines at one moment the first is of no later kind.
-use Rattle.std.proofs.Common.{◌≡◌, ℕ, zero, suc, ◌+◌, ◌≤◌, Bool, true, false, if◌then◌else◌, List, [], ◌∷◌, ◌++◌, map, flat_map, fold, Option, Some, None, arith, refl, ap, ◌∙◌, sym, subst}
+use Rattle.std.proofs.Common.{◌≡◌, ℕ, zero, suc, ◌≤◌, Bool, true, false, if◌then◌else◌, List, [], ◌∷◌, ◌++◌, map, flat_map, fold, Option, Some, None, arith, refl, ◌∙◌, sym, subst}
 use Rattle.std.specs.Prelude.{option_map, ⊤}
-use Rattle.bus_specs.specs.Bus.{Bus, Setup, Member, Request, Running, Fault, Hurt, winner}
+use Rattle.bus_specs.specs.Bus.{Bus, Member, Request, Running, Fault, Hurt, winner}
 use Rattle.bus_specs.specs.Counters.{level}
 use Rattle.bus_specs.specs.Start.{losers, discards, loser_told, start_with, start}
 use Rattle.bus_specs.specs.Finish.{finish, finish_with, outcome_line, hurt_lines, state_lines, same_level, counters_after, recover}
