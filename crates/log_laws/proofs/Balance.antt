@@ -1,5 +1,5 @@
 -- Counting along a log: what was accepted, and how many frames of a node wait.
-use Rattle.std.proofs.Common.{◌≡◌, ℕ, ◌+◌, ◌<◌, ◌≤◌, ◌==◌, Bool, true, false, not, cond, if◌then◌else◌, List, [], ◌∷◌, ◌++◌, map, filter, arith, refl, ap, ◌∙◌, sym, subst}
+use Rattle.std.proofs.Common.{◌≡◌, ℕ, ◌+◌, ◌<◌, ◌≤◌, ◌==◌, Bool, true, false, not, cond, if◌then◌else◌, List, [], ◌∷◌, ◌++◌, arith, refl, ap, ◌∙◌, sym, subst}
 use Rattle.std.specs.Prelude.{◌&&◌, ◌||◌, count_by}
 use Rattle.std.specs.List.{list_any}
 use Rattle.std.proofs.lemmas.Bool.{and_parts, eqb-true}
@@ -12,9 +12,9 @@ use Rattle.log_specs.specs.Line.{Line, On, Down, Over, End, Told, Req, Full, Dro
 use Rattle.play_specs.specs.Scenario.{Scenario, scenario_lines}
 use Rattle.bus_sound.proofs.Lists.{count-filter}
 use Rattle.log_laws.specs.Scenarios.{IsScenario}
-use Rattle.log_laws.specs.Mirror.{Mirror, mirror, mirror_after, mirror_told, new_mirror}
-use Rattle.log_laws.specs.Queues.{RequestsFit, HasRoom, how_many}
-use Rattle.log_laws.specs.Accounts.{Account, new_account, one_if, meant_waiting, meant_of_node, account_level, account_told, account_line, account_after, account, NothingIsForgotten}
+use Rattle.log_laws.specs.Mirror.{Mirror, mirror_after, mirror_told, new_mirror}
+use Rattle.log_laws.specs.Queues.{RequestsFit}
+use Rattle.log_laws.specs.Accounts.{Account, new_account, one_if, account_level, account_told, account_line, account_after, NothingIsForgotten}
 use Rattle.log_laws.proofs.Firsts.{frame-same}
 use Rattle.log_laws.proofs.Lawful.{Lawful, LawfulTold, Within, follow}
 use Rattle.log_laws.proofs.Followed.{lines-lawful}

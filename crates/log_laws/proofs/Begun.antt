@@ -1,29 +1,28 @@
 -- A start: its lines, and what waits and runs behind them.
-use Rattle.std.proofs.Common.{◌≡◌, ℕ, ◌+◌, ◌-◌, ◌<◌, ◌≤◌, ◌==◌, ◌⊎◌, Bool, true, false, not, cond, if◌then◌else◌, min, List, [], ◌∷◌, ◌++◌, map, filter, Option, Some, None, IfSome, arith, refl, ap, ◌∙◌, sym, subst, inl, inr, eq-eqb}
-use Rattle.std.specs.Prelude.{◌&&◌, option_map, ⊤}
+use Rattle.std.proofs.Common.{◌≡◌, ℕ, ◌+◌, ◌-◌, ◌≤◌, ◌==◌, Bool, true, false, not, if◌then◌else◌, min, List, [], ◌∷◌, ◌++◌, map, filter, Option, Some, None, arith, refl, ap, ◌∙◌, sym, subst, inl, inr, eq-eqb}
+use Rattle.std.specs.Prelude.{◌&&◌, option_map}
 use Rattle.std.specs.List.{list_any}
-use Rattle.std.proofs.lemmas.Bool.{and_parts, and_left, both_ways, not-true, not_from_false, eqb-true, false_from_ne_true}
+use Rattle.std.proofs.lemmas.Bool.{and_left, both_ways, not-true, not_from_false, eqb-true, false_from_ne_true}
 use Rattle.frame_specs.specs.Wire.{wire_bits, ack_place}
 use Rattle.bus_specs.specs.Bus.{Bus, Setup, ErrorEntry, Member, Request, Running, Hurt, is, winner}
 use Rattle.bus_specs.specs.Bus as bus
-use Rattle.bus_specs.specs.Start.{losers, discards, discarded, is_same, is_gone, member_after_start, listeners, entry_of_attempt, node_of_entry, Course, course_to_error, course_of_frame, only_hurts, course_by_entry, course_with, course, running_frame, bus_after_start, loser_told, start_lines, start_with, start}
+use Rattle.bus_specs.specs.Start.{losers, discards, discarded, is_same, is_gone, member_after_start, listeners, entry_of_attempt, node_of_entry, course_to_error, course_of_frame, only_hurts, course_with, course, running_frame, bus_after_start, loser_told, start_lines, start_with, start}
 use Rattle.bus_specs.specs.Due.{next_due, at}
 use Rattle.bus_specs.specs.Due as due
 use Rattle.bus_specs.specs.Sound.{Sound, Rise}
 use Rattle.bus_specs.specs.Waits.{Waiting, is_meant, without_first, waiting_of}
-use Rattle.log_specs.specs.Line.{Line, On, Told, Start, LostKept, LostGone}
+use Rattle.log_specs.specs.Line.{Line, On, Start, LostKept, LostGone}
 use Rattle.bus_sound.proofs.Among.{Among, filter-among}
 use Rattle.bus_sound.proofs.Lists.{rise-filter, none_from}
 use Rattle.bus_sound.proofs.Orders.{foremost-among}
 use Rattle.bus_sound.proofs.Foremost.{better}
 use Rattle.bus_sound.proofs.Dues.{start-due, start-idle}
-use Rattle.log_laws.specs.Mirror.{Seen, OnWire, Mirror, mirror_after, mirror_told, takes_part, seen_is, listening}
-use Rattle.log_laws.specs.Losers.{losses, tells_loss, loss_line, losing, loss_next, offers}
-use Rattle.log_laws.specs.Starts.{IsFree}
+use Rattle.log_laws.specs.Mirror.{Seen, OnWire, Mirror, mirror_after, takes_part, seen_is, listening}
+use Rattle.log_laws.specs.Losers.{losses, tells_loss, loss_line, losing, loss_next}
 use Rattle.log_laws.proofs.Rows.{filter-map, filter-same, filter-all, map-map, map-among-same, any-map, rise-after}
 use Rattle.log_laws.proofs.Firsts.{First, shown, first-filter, first-goes, first-found, gone-cons}
-use Rattle.log_laws.proofs.Lawful.{Opens, StartIs, Lawful, LawfulTold, Within, Follows, follows-none, Agrees, SameRunning, SameFrame, EndsBy, less, hurt_of, seen, follow}
-use Rattle.log_laws.proofs.Known.{own, Offered, request_of, map-unseen}
+use Rattle.log_laws.proofs.Lawful.{Opens, StartIs, LawfulTold, Within, Follows, follows-none, Agrees, SameRunning, EndsBy, less, hurt_of, seen, follow}
+use Rattle.log_laws.proofs.Known.{own, Offered, map-unseen}
 use Rattle.log_laws.proofs.Offers.{offers-first, offers-rise, takes-part, offers-shown, winner-foremost, offers-take-part}
 
 -- the losers, one after another
@@ -79,7 +78,7 @@ module _ (b : Bus) (now : ℕ) where
       lines-behind = loss_lines ls ++ after
 
       go : (t : Bool) → discards b r ≡ t → ((y : Mirror) (qs : List Request) → y.waits ≡ waiting_of qs → Rise 0 (map (λ (q : Request). q.number) qs) below
-              → ((z : Request) → Among ls z → First qs z) → Behind y ls qs after)
+          → ((z : Request) → Among ls z → First qs z) → Behind y ls qs after)
           → Behind x (r ∷ ls) rs after
       go true t on =
           let step : mirror_after b.setup x (On now b.setup.number r.node (loser_told b r)) ≡ record x { waits = waiting_of kept-rs } =
@@ -140,10 +139,10 @@ module _ (b : Bus) (now : ℕ) (w : Request) where
 
       by : (e : ErrorEntry) (t : Bool)
           → (if t then course_of_frame b now w (Some (record { node = node_of_entry e w.node; kind = e.kind })) (filter (λ n. not (n == node_of_entry e w.node)) heard)
-            else course_to_error b now w.frame (min e.bit (wire_bits w.frame - 1)) (record { kind = e.kind; by = node_of_entry e w.node }) None heard).listeners
+          else course_to_error b now w.frame (min e.bit (wire_bits w.frame - 1)) (record { kind = e.kind; by = node_of_entry e w.node }) None heard).listeners
           ≡ less (option_map (λ (h : Hurt). h.node)
-            (if t then course_of_frame b now w (Some (record { node = node_of_entry e w.node; kind = e.kind })) (filter (λ n. not (n == node_of_entry e w.node)) heard)
-            else course_to_error b now w.frame (min e.bit (wire_bits w.frame - 1)) (record { kind = e.kind; by = node_of_entry e w.node }) None heard).hurt) heard
+          (if t then course_of_frame b now w (Some (record { node = node_of_entry e w.node; kind = e.kind })) (filter (λ n. not (n == node_of_entry e w.node)) heard)
+          else course_to_error b now w.frame (min e.bit (wire_bits w.frame - 1)) (record { kind = e.kind; by = node_of_entry e w.node }) None heard).hurt) heard
       by e true = frame-heard (Some (record { node = node_of_entry e w.node; kind = e.kind })) (filter (λ n. not (n == node_of_entry e w.node)) heard)
           ∙ less-some heard (node_of_entry e w.node)
           ∙ ap (λ o. less (option_map (λ (h : Hurt). h.node) o) heard)
@@ -158,7 +157,7 @@ module _ (b : Bus) (now : ℕ) (w : Request) where
   frame-ends hurt [] = (ack_place w.frame, omega arith)
   frame-ends hurt (n ∷ ns) = refl
 
-  course-ends : EndsBy b.setup now w.frame (course b now w).fault (course b now w).end
+  pub course-ends : EndsBy b.setup now w.frame (course b now w).fault (course b now w).end
   unfolding course
   course-ends = go (entry_of_attempt b w.node heard)
     where
@@ -167,10 +166,10 @@ module _ (b : Bus) (now : ℕ) (w : Request) where
 
       by : (e : ErrorEntry) (t : Bool)
           → EndsBy b.setup now w.frame
-            (if t then course_of_frame b now w (Some (record { node = node_of_entry e w.node; kind = e.kind })) (filter (λ n. not (n == node_of_entry e w.node)) heard)
-            else course_to_error b now w.frame (min e.bit (wire_bits w.frame - 1)) (record { kind = e.kind; by = node_of_entry e w.node }) None heard).fault
-            (if t then course_of_frame b now w (Some (record { node = node_of_entry e w.node; kind = e.kind })) (filter (λ n. not (n == node_of_entry e w.node)) heard)
-            else course_to_error b now w.frame (min e.bit (wire_bits w.frame - 1)) (record { kind = e.kind; by = node_of_entry e w.node }) None heard).end
+          (if t then course_of_frame b now w (Some (record { node = node_of_entry e w.node; kind = e.kind })) (filter (λ n. not (n == node_of_entry e w.node)) heard)
+          else course_to_error b now w.frame (min e.bit (wire_bits w.frame - 1)) (record { kind = e.kind; by = node_of_entry e w.node }) None heard).fault
+          (if t then course_of_frame b now w (Some (record { node = node_of_entry e w.node; kind = e.kind })) (filter (λ n. not (n == node_of_entry e w.node)) heard)
+          else course_to_error b now w.frame (min e.bit (wire_bits w.frame - 1)) (record { kind = e.kind; by = node_of_entry e w.node }) None heard).end
       by e true = frame-ends (Some (record { node = node_of_entry e w.node; kind = e.kind })) (filter (λ n. not (n == node_of_entry e w.node)) heard)
       by e false = (min e.bit (wire_bits w.frame - 1), omega arith)
 

@@ -1,9 +1,8 @@
 -- Which event is due, and that it has a line.
-use Rattle.std.proofs.Common.{◌≡◌, ℕ, ◌+◌, ◌<◌, ◌≤◌, ◌==◌, ◌⊎◌, Bool, true, false, if◌then◌else◌, List, [], ◌∷◌, ◌++◌, map, filter, fold, max, Option, Some, None, is_some, arith, refl, ap, ◌∙◌, sym, subst, inl, inr, eq-eqb}
+use Rattle.std.proofs.Common.{◌≡◌, ℕ, ◌<◌, ◌≤◌, ◌==◌, ◌⊎◌, Bool, true, false, if◌then◌else◌, List, [], ◌∷◌, ◌++◌, map, filter, fold, max, Option, Some, None, is_some, arith, refl, ap, ◌∙◌, sym, subst, inl, inr, eq-eqb}
 use Rattle.std.specs.Prelude.{◌||◌, flat_map, option_map, option_to_list, nat_le}
-use Rattle.std.proofs.lemmas.Bool.{both_ways, or_left, or_right, le-leb, leb-true}
-use Rattle.bus_specs.specs.Bus.{Bus, Setup, Member, Request, Running, LostNotice, FormatNotice, wants, ready_moment, winner}
-use Rattle.bus_specs.specs.Submit.{submit, submission_of}
+use Rattle.std.proofs.lemmas.Bool.{le-leb, leb-true}
+use Rattle.bus_specs.specs.Bus.{Bus, Member, Request, Running, LostNotice, FormatNotice, wants, ready_moment, winner}
 use Rattle.bus_specs.specs.Inbox.{take_inbox, members_at, told_notices, due, due_lost, due_format, due_wake, has_notice}
 use Rattle.bus_specs.specs.Start.{start, start_with}
 use Rattle.bus_specs.specs.Finish.{finish, finish_with, recover, return_moment}
@@ -11,8 +10,8 @@ use Rattle.bus_specs.specs.Due.{Due, What, Finish, Return, Notices, Start, rank,
 use Rattle.run_specs.specs.Order.{better_of}
 use Rattle.log_specs.specs.Line.{Line, On, Told}
 use Rattle.log_specs.specs.Line as log
-use Rattle.play_specs.specs.Scenario.{Action, Scenario, World, or_asked, up_to, next_event, along, takers, action_step, moment_step, event_step}
-use Rattle.bus_sound.proofs.Among.{Among, filter-among, among-filter, filter_map-among, among-append_left}
+use Rattle.play_specs.specs.Scenario.{Action, World, or_asked, up_to, next_event, along, takers, action_step, event_step}
+use Rattle.bus_sound.proofs.Among.{Among, filter-among, among-filter, filter_map-among}
 use Rattle.bus_sound.proofs.Lists.{among-map, map-among, append-among, among-append_right, flat_map-among}
 use Rattle.bus_sound.proofs.Orders.{foremost-among, foremost-unbeaten}
 use Rattle.bus_sound.proofs.Dues.{precedes-order, not-before, start-due}
@@ -121,10 +120,10 @@ finish-due b since d h k = go b.running refl (foremost-among precedes (dues b si
         let q : 2 ≡ rank d.what = ap (λ (x : Due). rank x.what) i.2 in absurd (omega (arith, q, zero-rank))
 
 -- where notices are due, a member has one
-record Noticed (b : Bus) (now : ℕ) : Type 0 where
-  member : Member
-  among : Among b.members member
-  has : has_notice now member ≡ true
+pub record Noticed (b : Bus) (now : ℕ) : Type 0 where
+  pub member : Member
+  pub among : Among b.members member
+  pub has : has_notice now member ≡ true
 
 due-some : {A : Type 0} (when : A → ℕ) (now : ℕ) (o : Option A) → Among (option_to_list (option_map when o)) now → is_some (due when now o) ≡ true
 due-some when now None a = absurd a
@@ -164,7 +163,7 @@ in-notices b d a =
     let f = flat_map-among notice_moments b.members r.0 r.1 in
     record { member = f.0; among = f.1; has = notice-there d.moment f.0 (subst (Among (notice_moments f.0)) (ap (λ (x : Due). x.moment) r.2) f.2) }
 
-notices-due : (b : Bus) (since : ℕ) (d : Due) → next_due b since ≡ Some d → d.what ≡ Notices → Noticed b d.moment
+pub notices-due : (b : Bus) (since : ℕ) (d : Due) → next_due b since ≡ Some d → d.what ≡ Notices → Noticed b d.moment
 unfolding next_due
 notices-due b since d h k = go b.running (foremost-among precedes (dues b since b.running) d h)
   where
@@ -203,8 +202,8 @@ actions-some (x ∷ xs) a so_far k = along-keeps action_step xs (along action_st
 
 three-some : (now b node : ℕ) (l : Option LostNotice) (f : Option FormatNotice) (w : Option ℕ) → (is_some l || is_some f || is_some w) ≡ true
     → Some_lines (map (On now b node) (option_to_list (option_map (λ (n : LostNotice). log.ToldLost n.id) l)
-      ++ option_to_list (option_map (λ (n : FormatNotice). log.ToldFormat n.bytes) f)
-      ++ option_to_list (option_map (λ (n : ℕ). log.ToldWake) w)))
+    ++ option_to_list (option_map (λ (n : FormatNotice). log.ToldFormat n.bytes) f)
+    ++ option_to_list (option_map (λ (n : ℕ). log.ToldWake) w)))
 three-some now b node None None None e = absurd cc
 three-some now b node None None (Some w) e = tt
 three-some now b node None (Some f) None e = tt

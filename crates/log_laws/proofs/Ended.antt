@@ -1,10 +1,9 @@
 -- A finish: its lines, and what waits, is seen and runs behind them.
-use Rattle.std.proofs.Common.{◌≡◌, ℕ, ◌+◌, ◌*◌, ◌≤◌, ◌==◌, Bool, true, false, not, cond, List, [], ◌∷◌, ◌++◌, map, filter, All, IfSome, Option, Some, None, arith, refl, ap, ◌∙◌, sym, subst, inl, inr, eq-eqb, append_assoc}
-use Rattle.std.specs.Prelude.{◌&&◌, ◌||◌, flat_map, option_map, ⊤}
+use Rattle.std.proofs.Common.{◌≡◌, ℕ, ◌+◌, ◌*◌, ◌==◌, Bool, true, false, not, cond, List, [], ◌∷◌, ◌++◌, map, filter, All, IfSome, Option, Some, None, refl, ap, ◌∙◌, sym, subst, eq-eqb}
+use Rattle.std.specs.Prelude.{◌&&◌, ◌||◌, option_map}
 use Rattle.std.specs.List.{list_any}
-use Rattle.std.proofs.lemmas.Bool.{and_parts, and_from, both_ways, not_from_false, eqb-true, false_from_ne_true}
-use Rattle.bus_specs.specs.Bus.{Bus, Setup, Member, Request, Running, Fault, Hurt, off, among, member_is, bits, is}
-use Rattle.bus_specs.specs.Bus as bus
+use Rattle.std.proofs.lemmas.Bool.{and_parts, and_from, not_from_false, eqb-true}
+use Rattle.bus_specs.specs.Bus.{Bus, Member, Request, Running, Fault, Hurt, off, among, member_is, is}
 use Rattle.bus_specs.specs.Finish.{member_after_finish, is_sent, bus_after_finish, outcome_line, hurt_lines, state_lines, finish_lines, finish_with, finish}
 use Rattle.bus_specs.specs.Finish as end
 use Rattle.bus_specs.specs.Sound.{Sound}
@@ -15,14 +14,14 @@ use Rattle.bus_sound.proofs.Among.{Among, filter-among}
 use Rattle.bus_sound.proofs.Lists.{All-each, map-among, any_to, any_from}
 use Rattle.bus_sound.proofs.Consequences.{listener-on}
 use Rattle.log_laws.specs.Mirror.{Seen, OnWire, Mirror, mirror_after, mirror_told, takes_part, seen_is}
-use Rattle.log_laws.specs.Deliveries.{IsRunning, IsDelivery, IsFailure, receivers, hurt_next}
+use Rattle.log_laws.specs.Deliveries.{IsRunning, receivers, hurt_next}
 use Rattle.log_laws.specs.Losers.{loss_next}
 use Rattle.log_laws.proofs.Rows.{filter-map, filter-same, filter-all, filter-both, map-map, any-map}
 use Rattle.log_laws.proofs.Firsts.{First, first-goes, first-found}
-use Rattle.log_laws.proofs.Lawful.{Opens, Lawful, LawfulTold, Within, Follows, follows-none, follows-append, Agrees, SameRunning, SameFrame, EndsBy, less, hurt_of, seen, follow}
+use Rattle.log_laws.proofs.Lawful.{Opens, Lawful, Within, Follows, follows-none, Agrees, SameRunning, SameFrame, EndsBy, less, hurt_of, seen, follow}
 use Rattle.log_laws.proofs.Due.{Ends}
 use Rattle.log_laws.proofs.Known.{own, Offered, request_of, level-off}
-use Rattle.log_laws.proofs.States.{lines_of, each, falls, Behind, told-states, states-seen, falls-off}
+use Rattle.log_laws.proofs.States.{lines_of, each, falls, told-states, states-seen, falls-off}
 
 among-less : (ns : List ℕ) (hurt : Option ℕ) (n : ℕ) → among (less hurt ns) n ≡ (among ns n && not (is n hurt))
 among-less [] hurt n = refl
@@ -136,13 +135,16 @@ module _ (b : Bus) (m : Mirror) (now : ℕ) (sound : Sound b) (a : Agrees m b) (
 
   outcome-lawful : (o : Option Fault) (rest : List Line) → r.fault ≡ o → hurt_next rest ≡ hurt_of r → loss_next rest ≡ false → Lawful b.setup m (outcome_line b now r o) rest
   unfolding is-running on-wire
-  outcome-lawful None rest e h l = (record {
-    runs = is-running;
-    ends = ends-by None e;
-    waits = ap (list_any (is_meant r.sender r.frame)) a.waits ∙ first-found b.requests (request_of r) first;
-    receivers = receivers-same ∙ ap (receivers m on-wire.0) (sym h);
-    on = receivers-on;
-  }, l)
+  outcome-lawful None rest e h l = (
+    record {
+      runs = is-running;
+      ends = ends-by None e;
+      waits = ap (list_any (is_meant r.sender r.frame)) a.waits ∙ first-found b.requests (request_of r) first;
+      receivers = receivers-same ∙ ap (receivers m on-wire.0) (sym h);
+      on = receivers-on;
+    },
+    l,
+  )
   outcome-lawful (Some x) rest e h l = let k = ends-by (Some x) e in (record { runs = is-running; bit = k.0; ends = k.1 }, l)
 
   outcome-opens : (o : Option Fault) (rest : List Line) → Opens (outcome_line b now r o ∷ rest)
@@ -166,12 +168,12 @@ module _ (b : Bus) (m : Mirror) (now : ℕ) (sound : Sound b) (a : Agrees m b) (
   ended o e = record {
     agrees = subst (λ x. Agrees x (bus_after_finish b now r)) (sym (ap (λ x. follow b.setup x tail) (outcome-mirror o)
         ∙ hurt-mirror (settled o) r.hurt (lines_of b now r b.members) ∙ (told-states b now r b.members (settled o) (unsent o) [] refl none-opens).mirror)) (record {
-      nodes = ap (map (each b now r b.members)) a.nodes ∙ states-seen b now r (sound.nodes).0 (sound.nodes).1;
-      waits = ap waiting_of (kept-waits o e);
-      idle = refl;
-      last = refl;
-      running = tt;
-    });
+          nodes = ap (map (each b now r b.members)) a.nodes ∙ states-seen b now r (sound.nodes).0 (sound.nodes).1;
+          waits = ap waiting_of (kept-waits o e);
+          idle = refl;
+          last = refl;
+          running = tt;
+        });
     lawful = λ after k. (
       outcome-lawful o (tail ++ after) e (tail-hurt r.hurt (lines_of b now r b.members) after (opened after k)) (tail-loss r.hurt (lines_of b now r b.members) after (opened after k)),
       subst (λ x. Within b.setup x tail after) (sym (outcome-mirror o)) (hurt-within (settled o) r.hurt (lines_of b now r b.members) after (opened after k)

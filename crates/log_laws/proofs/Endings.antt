@@ -1,11 +1,10 @@
 -- How a log ends, and that its lines are of its bus and up to the stop.
-use Rattle.std.proofs.Common.{◌≡◌, ℕ, zero, suc, ◌+◌, ◌≤◌, ◌⊎◌, Bool, true, false, All, List, [], ◌∷◌, ◌++◌, fold, Option, Some, None, arith, refl, ap, ◌∙◌, sym, subst, inl, inr, append_assoc, append-nil}
-use Rattle.std.specs.Prelude.{option_map, ⊤}
-use Rattle.bus_specs.specs.Bus.{Bus, Setup}
+use Rattle.std.proofs.Common.{◌≡◌, ℕ, zero, suc, ◌+◌, ◌≤◌, ◌⊎◌, true, List, [], ◌∷◌, ◌++◌, Option, Some, None, arith, refl, ap, ◌∙◌, sym, subst, inl, inr, append_assoc, append-nil}
+use Rattle.std.specs.Prelude.{option_map}
 use Rattle.bus_specs.specs.Due.{Due}
-use Rattle.log_specs.specs.Line.{Line, On, Down, Over, End, Told}
+use Rattle.log_specs.specs.Line.{Line, On, Down, Over, End}
 use Rattle.run_specs.specs.Run.{behind, head, then_from}
-use Rattle.play_specs.specs.Scenario.{Action, Scenario, World, opening, next_event, event_step, world_behind, status, machine, scenario_lines, scenario_status}
+use Rattle.play_specs.specs.Scenario.{Scenario, World, opening, next_event, event_step, world_behind, status, machine, scenario_lines, scenario_status}
 use Rattle.bus_sound.proofs.Among.{Among}
 use Rattle.bus_sound.proofs.Lists.{All-each, append-among}
 use Rattle.log_laws.specs.Scenarios.{IsScenario}

@@ -1,18 +1,17 @@
 -- A request that stands first of its node's equal frames, and what waits where such ones go.
-use Rattle.std.proofs.Common.{◌≡◌, ℕ, ◌+◌, ◌<◌, ◌≤◌, ◌==◌, ◌⊎◌, Bool, true, false, not, cond, if◌then◌else◌, List, [], ◌∷◌, ◌++◌, map, filter, Option, Some, None, arith, sym, refl, ap, ◌∙◌, subst, inl, inr, eq-eqb}
+use Rattle.std.proofs.Common.{◌≡◌, ℕ, ◌==◌, Bool, true, false, not, List, [], ◌∷◌, ◌++◌, map, filter, arith, sym, refl, ap, ◌∙◌, subst, inl, inr, eq-eqb}
 use Rattle.std.specs.Prelude.{◌&&◌, ◌||◌, bytes_eq}
 use Rattle.std.specs.Bool.{beq}
 use Rattle.std.specs.List.{list_any}
-use Rattle.std.proofs.lemmas.Bool.{and_parts, and_from, and_left, and_right, both_ways, not-true, not_from_false, not_from_true, eqb-true, eqb-false, ne_eqb, false_from_ne_true, or_parts}
+use Rattle.std.proofs.lemmas.Bool.{and_parts, and_from, and_right, not_from_false, eqb-true, false_from_ne_true}
 use Rattle.std.proofs.lemmas.Slice.Eq.{bytes_eq-Decides}
 use Rattle.frame_specs.specs.Frame.{Frame, Kind, Data, Remote, Fd}
-use Rattle.frame_specs.specs.Dominance.{beats}
 use Rattle.bus_specs.specs.Bus.{Request}
 use Rattle.bus_specs.specs.Start.{is_same, is_gone}
 use Rattle.bus_specs.specs.Sound.{Rise}
 use Rattle.bus_specs.specs.Waits.{Waiting, same_kind, same_frame, is_meant, without_first, waiting_of}
 use Rattle.bus_sound.proofs.Among.{Among, filter-among}
-use Rattle.bus_sound.proofs.Lists.{any_from, none_from}
+use Rattle.bus_sound.proofs.Lists.{any_from}
 use Rattle.log_laws.proofs.Rows.{filter-append, filter-same, filter-all, filter-both, map-append, rise-before, rise-behind}
 
 kind-same : (k l : Kind) → same_kind k l ≡ true → k ≡ l

@@ -1,15 +1,15 @@
 -- Behind any number of events of a scenario the mirror of the lines so far agrees with the bus, and each line is lawful.
-use Rattle.std.proofs.Common.{◌≡◌, ℕ, zero, suc, ◌==◌, true, List, [], ◌∷◌, ◌++◌, map, filter, fold, Option, Some, None, refl, ap, ◌∙◌, sym, subst, inl, inr, append-nil}
+use Rattle.std.proofs.Common.{◌≡◌, ℕ, zero, suc, ◌==◌, true, List, [], ◌∷◌, ◌++◌, filter, fold, Option, Some, None, refl, ◌∙◌, sym, subst, inl, inr, append-nil}
 use Rattle.std.specs.Prelude.{option_map}
 use Rattle.log_specs.specs.Line.{Line, End}
-use Rattle.bus_specs.specs.Bus.{Bus, Setup, Member, new_bus, new_member}
-use Rattle.bus_specs.specs.Submit.{submit, submission_of}
+use Rattle.bus_specs.specs.Bus.{Bus, Setup, new_bus, new_member}
+use Rattle.bus_specs.specs.Submit.{submission_of}
 use Rattle.bus_specs.specs.Inbox.{enter, take_inbox}
 use Rattle.bus_specs.specs.Start.{start}
 use Rattle.bus_specs.specs.Finish.{finish, recover}
 use Rattle.bus_specs.specs.Due.{Due, What, Finish, Return, Notices, Start, at, next_due}
 use Rattle.run_specs.specs.Run.{behind, head, then_from}
-use Rattle.play_specs.specs.Scenario.{Action, Scenario, World, opening, next_event, along, takers, action_step, moment_step, event_step, world_behind, status, machine, scenario_lines}
+use Rattle.play_specs.specs.Scenario.{Action, Scenario, World, opening, next_event, along, takers, action_step, event_step, world_behind, status, machine, scenario_lines}
 use Rattle.bus_sound.proofs.Among.{Among, filter-among}
 use Rattle.bus_sound.proofs.Lists.{each-All}
 use Rattle.log_laws.specs.Scenarios.{Acts, IsScenario}
@@ -60,18 +60,24 @@ module _ (p : Scenario) where
 
   pub event-goes : (w : World) (m : Mirror) (now : ℕ) (what : What) → (what ≡ Start → next_due w.bus w.now ≡ Some (at Start now)) → (what ≡ Finish → Ends w.bus now) → RunWorld p w → Offered w.bus → Agrees m w.bus
       → Offered (event_step w now what).0 × Follows m p.setup (event_step w now what).1 (event_step w now what).0
-  event-goes w m now Finish d n h f a = (finish-offered w.bus now f,
-      here m (finish w.bus now).1 w.bus (finish w.bus now).0 h.bus.setup (finish-follows w.bus m now h.bus.sound a h.bus.live f (n refl)))
-  event-goes w m now (Return n) d x h f a = (recover-offered w.bus now n f,
-      here m (recover w.bus now n).1 w.bus (recover w.bus now n).0 h.bus.setup (recover-follows w.bus m now n h.bus.sound a))
+  event-goes w m now Finish d n h f a = (
+    finish-offered w.bus now f,
+    here m (finish w.bus now).1 w.bus (finish w.bus now).0 h.bus.setup (finish-follows w.bus m now h.bus.sound a h.bus.live f (n refl)),
+  )
+  event-goes w m now (Return n) d x h f a = (
+    recover-offered w.bus now n f,
+    here m (recover w.bus now n).1 w.bus (recover w.bus now n).0 h.bus.setup (recover-follows w.bus m now n h.bus.sound a),
+  )
   event-goes w m now Notices d n h f a =
       let g = all-pairs (λ q. Goes m q.1 q.0) action_step (filter (λ a. a.moment == now) w.ahead) (fold (along (λ b node. take_inbox b now node)) (w.bus, []) (takers w.bus now))
       (λ q x k i. action-goes m q x (each-All (Acts p) w.ahead x h.ahead (filter-among (λ a. a.moment == now) w.ahead x k).0) i)
       (all-pairs (λ q. Goes m q.1 q.0) (λ b node. take_inbox b now node) (takers w.bus now) (w.bus, [])
       (λ q n k i. take-goes m now q n i) (record { bus = h.bus; offered = f; follows = follows-none m p.setup w.bus a })) in
       (g.offered, g.follows)
-  event-goes w m now Start d n h f a = (start-offered w.bus m w.now now h.bus.sound a h.bus.live (d refl) f,
-      here m (start w.bus now).1 w.bus (start w.bus now).0 h.bus.setup (start-follows w.bus m w.now now h.bus.sound a h.bus.live (d refl)))
+  event-goes w m now Start d n h f a = (
+    start-offered w.bus m w.now now h.bus.sound a h.bus.live (d refl) f,
+    here m (start w.bus now).1 w.bus (start w.bus now).0 h.bus.setup (start-follows w.bus m w.now now h.bus.sound a h.bus.live (d refl)),
+  )
 
   run-goes : (k : ℕ) (w : World) (m : Mirror) → RunWorld p w → Offered w.bus → Agrees m w.bus
       → Follows m p.setup (head (machine p.stop) k w) (behind (machine p.stop) k w).bus

@@ -1,22 +1,20 @@
 -- What a mirror that agrees with a bus tells of it.
-use Rattle.std.proofs.Common.{◌≡◌, ℕ, ◌==◌, Bool, true, false, not, if◌then◌else◌, List, [], ◌∷◌, ◌++◌, map, IfSome, Option, Some, None, refl, ap, ◌∙◌, sym, subst, inl, inr, eq-eqb}
-use Rattle.std.specs.Prelude.{◌&&◌, count_by, ⊤}
-use Rattle.operation_specs.specs.Operation.{Declared, Active, Passive, Off}
+use Rattle.std.proofs.Common.{◌≡◌, ℕ, ◌==◌, Bool, true, false, not, if◌then◌else◌, List, [], ◌∷◌, map, IfSome, None, refl, ap, ◌∙◌, sym, subst, eq-eqb}
+use Rattle.std.specs.Prelude.{◌&&◌, count_by}
+use Rattle.operation_specs.specs.Operation.{Active, Passive, Off}
 use Rattle.bus_specs.specs.Counters.{Counters, level, is_active, is_passive}
 use Rattle.bus_specs.specs.Counters as counters
-use Rattle.bus_specs.specs.Bus.{Bus, Setup, Member, Request, Running, off, passive, member_is, waiting}
+use Rattle.bus_specs.specs.Bus.{Bus, Setup, Member, Request, Running, off, member_is, waiting}
 use Rattle.bus_specs.specs.Finish.{same_level}
-use Rattle.bus_specs.specs.Waits.{waiting_of}
 use Rattle.log_specs.specs.Line.{Line, On, Told}
-use Rattle.bus_sound.proofs.Among.{Among}
 use Rattle.bus_sound.proofs.Quiet.{one}
 use Rattle.log_laws.specs.Mirror.{Seen, Mirror, mirror_after, mirror_told, with_node, is_off}
 use Rattle.log_laws.specs.Deliveries.{hurt_node}
 use Rattle.log_laws.specs.Losers.{tells_loss}
 use Rattle.log_laws.specs.Queues.{how_many, node_off}
-use Rattle.log_laws.proofs.Rows.{count-map, any-map, any-same, map-append}
+use Rattle.log_laws.proofs.Rows.{count-map, any-map, any-same}
 use Rattle.log_laws.proofs.Firsts.{First}
-use Rattle.log_laws.proofs.Lawful.{Opens, Lawful, LawfulTold, Within, Follows, Agrees, seen, follow}
+use Rattle.log_laws.proofs.Lawful.{Opens, LawfulTold, Follows, Agrees, seen}
 
 -- the running frame's request is there, the first of its node's equal frames
 abbrev pub request_of : Running → Request

@@ -1,12 +1,12 @@
 -- What holds at each line of a log, by what its reader knows; and what agrees with a bus.
-use Rattle.std.proofs.Common.{◌≡◌, ℕ, ◌+◌, ◌≤◌, ◌==◌, Bool, true, false, not, List, [], ◌∷◌, ◌++◌, map, filter, fold, Option, Some, None, refl, ap, ◌∙◌, sym, subst, append_assoc}
+use Rattle.std.proofs.Common.{◌≡◌, ℕ, ◌+◌, true, false, not, List, [], ◌∷◌, ◌++◌, map, filter, fold, Option, Some, None, sym, subst, append_assoc}
 use Rattle.std.specs.Prelude.{option_map, ⊤}
 use Rattle.std.specs.List.{list_any}
 use Rattle.std.proofs.lemmas.List.Sums.{fold-append}
 use Rattle.frame_specs.specs.Frame.{Frame}
 use Rattle.run_specs.specs.Order.{IsForemost}
 use Rattle.bus_specs.specs.Counters.{level}
-use Rattle.bus_specs.specs.Bus.{Bus, Setup, Member, Request, Running, Fault, is}
+use Rattle.bus_specs.specs.Bus.{Bus, Setup, Member, Running, Fault, is}
 use Rattle.bus_specs.specs.Waits.{is_meant, waiting_of}
 use Rattle.log_specs.specs.Line.{Line, On, Down, Over, End, Told, Start, Req, Full, Drop, LostKept, LostGone, Done, Fail}
 use Rattle.log_laws.specs.Mirror.{Seen, OnWire, Mirror, mirror_after, takes_part, seen_is}

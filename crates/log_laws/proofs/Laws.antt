@@ -1,5 +1,5 @@
 -- The laws of logs, line by line.
-use Rattle.std.proofs.Common.{◌≡◌, ℕ, Bool, true, false, List, [], ◌∷◌, ◌++◌, subst, sym}
+use Rattle.std.proofs.Common.{◌≡◌, ℕ, false, List, [], ◌∷◌, ◌++◌, subst}
 use Rattle.bus_specs.specs.Bus.{Setup}
 use Rattle.log_specs.specs.Line.{Line, On, Down, Over, End, Told, Req, Full, Drop, Start, LostKept, LostGone, Keep, Discard, Wake, Sleep, ToldWake, Back, Rate, FdRate, Status, State, FormatError, Bad, ToldFormat, ToldLost, Done, Fail, Hurt}
 use Rattle.play_specs.specs.Scenario.{Scenario, scenario_lines}

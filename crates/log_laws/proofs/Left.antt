@@ -1,10 +1,10 @@
 -- Where a run ends with status 0 nothing is left to do up to the stop.
-use Rattle.std.proofs.Common.{◌≡◌, ℕ, ◌+◌, ◌<◌, ◌≤◌, ◌⊎◌, Bool, true, false, if◌then◌else◌, List, [], ◌∷◌, ◌++◌, filter, fold, max, IfSome, Option, Some, None, is_some, arith, refl, ap, ◌∙◌, sym, subst, inl, inr}
+use Rattle.std.proofs.Common.{◌≡◌, ℕ, ◌+◌, ◌<◌, ◌≤◌, ◌⊎◌, Bool, true, false, if◌then◌else◌, List, [], ◌∷◌, ◌++◌, filter, max, IfSome, Option, Some, None, is_some, arith, refl, ap, ◌∙◌, sym, subst, inl, inr}
 use Rattle.std.specs.Prelude.{nat_le}
 use Rattle.std.proofs.lemmas.Bool.{both_ways, leb-false}
 use Rattle.bus_specs.specs.Bus.{Bus, Member, Running, Fault, wants, ready_moment}
 use Rattle.bus_specs.specs.Due.{Due, Notices, Start, Finish, rank, precedes, at, returns, notices, starts, dues, next_due}
-use Rattle.run_specs.specs.Order.{better_of, foremost}
+use Rattle.run_specs.specs.Order.{foremost}
 use Rattle.log_specs.specs.Line.{Line, End}
 use Rattle.run_specs.specs.Run.{behind, head}
 use Rattle.play_specs.specs.Scenario.{Action, Scenario, World, opening, or_asked, up_to, next_event, status, machine, scenario_lines}
@@ -14,7 +14,7 @@ use Rattle.bus_sound.proofs.Orders.{foremost-some, foremost-unbeaten}
 use Rattle.bus_sound.proofs.Dues.{precedes-order, not-before}
 use Rattle.log_laws.specs.Scenarios.{IsScenario}
 use Rattle.log_laws.specs.Mirror.{OnWire, Mirror, mirror, new_mirror}
-use Rattle.log_laws.specs.Starts.{moment_after, last_moment, contenders}
+use Rattle.log_laws.specs.Starts.{last_moment, contenders}
 use Rattle.log_laws.specs.Deliveries.{time_on_wire, time_to_error}
 use Rattle.log_laws.specs.Moments.{NothingIsLeft}
 use Rattle.log_laws.proofs.Lawful.{Agrees, SameRunning, SameFrame, EndsBy, follow}
@@ -58,7 +58,7 @@ due-after b since stop h x a = go (foremost precedes (dues b since b.running)) r
         by (inr l) = omega (arith, l.0, k)
 
 -- the last line of two lists
-last-same : {X : Type 0} (xs ys : List X) (x y : X) → xs ++ x ∷ [] ≡ ys ++ y ∷ [] → (xs ≡ ys) × (x ≡ y)
+pub last-same : {X : Type 0} (xs ys : List X) (x y : X) → xs ++ x ∷ [] ≡ ys ++ y ∷ [] → (xs ≡ ys) × (x ≡ y)
 last-same [] [] x y e = (refl, cc)
 last-same [] (z ∷ []) x y e = absurd cc
 last-same [] (z ∷ w ∷ ys) x y e = absurd cc

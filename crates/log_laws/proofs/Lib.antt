@@ -20,4 +20,10 @@ pub mod Runs
 pub mod Endings
 pub mod Timed
 pub mod Left
+pub mod Answered
+pub mod Freshness
+pub mod EventCount
+pub mod KindOrder
+pub mod KindLaw
+pub mod Ranks
 pub mod Played

@@ -1,14 +1,11 @@
 -- The lines of an event: there is one at least, all at its moment and of its bus, and a start only first.
-use Rattle.std.proofs.Common.{◌≡◌, ℕ, ◌+◌, ◌<◌, ◌≤◌, ◌==◌, ◌⊎◌, Bool, true, false, not, if◌then◌else◌, List, [], ◌∷◌, ◌++◌, map, filter, filter_map, fold, max, Option, Some, None, is_some, arith, refl, ap, ◌∙◌, sym, subst, inl, inr, eq-eqb}
-use Rattle.std.specs.Prelude.{◌&&◌, ◌||◌, flat_map, option_map, option_to_list, nat_le, ⊤}
-use Rattle.std.specs.List.{list_any}
-use Rattle.std.proofs.lemmas.Bool.{both_ways, or_left, or_right, le-leb, eqb-true}
-use Rattle.operation_specs.specs.Operation.{Declared}
-use Rattle.bus_specs.specs.Bus.{Bus, Setup, Member, Request, Running, Fault, Hurt, LostNotice, FormatNotice, wants, ready_moment, winner}
+use Rattle.std.proofs.Common.{◌≡◌, ℕ, Bool, true, false, if◌then◌else◌, List, [], ◌∷◌, ◌++◌, map, Option, Some, None, refl}
+use Rattle.std.specs.Prelude.{flat_map, option_map, option_to_list, ⊤}
+use Rattle.bus_specs.specs.Bus.{Bus, Setup, Member, Request, Running, Fault, Hurt, LostNotice, FormatNotice}
 use Rattle.bus_specs.specs.Submit.{Submission, Transmit, Keep, Discard, Wakeup, Sleep, Rate, FdRate, Declare, FormatError, Unfit, Fate, Accepted, Full, Dropped, fate, submit, told_of, told_fate}
-use Rattle.bus_specs.specs.Inbox.{take_inbox, members_at, told_notices, due, due_lost, due_format, due_wake, has_notice}
-use Rattle.bus_specs.specs.Start.{losers, discards, loser_told, start_lines, start_with, start}
-use Rattle.bus_specs.specs.Finish.{finish, finish_with, finish_lines, outcome_line, hurt_lines, state_lines, same_level, counters_after, recover, return_moment}
+use Rattle.bus_specs.specs.Inbox.{take_inbox, members_at, told_notices, due_lost, due_format, due_wake}
+use Rattle.bus_specs.specs.Start.{discards, loser_told}
+use Rattle.bus_specs.specs.Finish.{finish, finish_with, outcome_line, hurt_lines, state_lines, same_level, counters_after, recover}
 use Rattle.bus_specs.specs.Counters.{level}
 use Rattle.log_specs.specs.Line.{Line, On, Down, Over, End, Told, LostKept, LostGone}
 use Rattle.log_specs.specs.Line as log
@@ -61,8 +58,11 @@ module _ (b : Bus) (now : ℕ) where
     where
       go : (o : Option Running) → Quiet b.setup now (finish_with b now o).1
       go None = tt
-      go (Some r) = (outcome-quiet r r.fault, quiet-append b.setup now (hurt_lines b now r.hurt) (flat_map (state_lines b now r) b.members)
-          (hurt-quiet r.hurt) (quiet-flat b.setup now (state_lines b now r) b.members (states-quiet r)))
+      go (Some r) = (
+        outcome-quiet r r.fault,
+        quiet-append b.setup now (hurt_lines b now r.hurt) (flat_map (state_lines b now r) b.members)
+            (hurt-quiet r.hurt) (quiet-flat b.setup now (state_lines b now r) b.members (states-quiet r)),
+      )
 
   pub recover-quiet : (node : ℕ) → Quiet b.setup now (recover b now node).1
   unfolding recover
@@ -91,8 +91,8 @@ module _ (b : Bus) (now : ℕ) where
 
   three-quiet : (node : ℕ) (l : Option LostNotice) (f : Option FormatNotice) (w : Option ℕ)
       → Quiet b.setup now (map (On now b.setup.number node) (option_to_list (option_map (λ (n : LostNotice). log.ToldLost n.id) l)
-        ++ option_to_list (option_map (λ (n : FormatNotice). log.ToldFormat n.bytes) f)
-        ++ option_to_list (option_map (λ (n : ℕ). log.ToldWake) w)))
+      ++ option_to_list (option_map (λ (n : FormatNotice). log.ToldFormat n.bytes) f)
+      ++ option_to_list (option_map (λ (n : ℕ). log.ToldWake) w)))
   three-quiet node None None None = tt
   three-quiet node None None (Some w) = (((refl, refl), refl), tt)
   three-quiet node None (Some f) None = (((refl, refl), refl), tt)

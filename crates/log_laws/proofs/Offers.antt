@@ -1,16 +1,14 @@
 -- What is offered at a start, by the mirror and on the bus.
-use Rattle.std.proofs.Common.{◌≡◌, ℕ, ◌+◌, ◌*◌, ◌<◌, ◌≤◌, ◌==◌, ◌⊎◌, Bool, true, false, not, cond, if◌then◌else◌, List, [], ◌∷◌, ◌++◌, map, filter, filter_map, All, Option, Some, None, arith, refl, ap, ◌∙◌, sym, subst, inl, inr, eq-eqb}
-use Rattle.std.specs.Prelude.{◌&&◌, flat_map, option_map, nat_le}
+use Rattle.std.proofs.Common.{◌≡◌, ℕ, ◌+◌, ◌*◌, ◌==◌, Bool, true, false, not, cond, if◌then◌else◌, List, [], ◌∷◌, map, filter, filter_map, Option, Some, None, arith, refl, ap, ◌∙◌, sym, subst, inl, eq-eqb}
+use Rattle.std.specs.Prelude.{◌&&◌, option_map, nat_le}
 use Rattle.std.specs.List.{cons_option, list_any}
-use Rattle.std.proofs.lemmas.Bool.{and_parts, and_from, both_ways, not-true, eqb-true, false_from_ne_true, true_from_ne_false}
-use Rattle.operation_specs.specs.Operation.{Off, Passive}
+use Rattle.std.proofs.lemmas.Bool.{and_parts, and_from, both_ways, eqb-true, false_from_ne_true, true_from_ne_false}
 use Rattle.frame_specs.specs.Dominance.{beats}
 use Rattle.run_specs.specs.Order.{foremost, IsForemost}
 use Rattle.bus_specs.specs.Bus.{Bus, Setup, Member, Request, off, passive, has_request, ready_moment, suspended, bits, is}
 use Rattle.bus_specs.specs.Bus as bus
-use Rattle.bus_specs.specs.Finish.{same_level}
 use Rattle.bus_specs.specs.Sound.{Rise}
-use Rattle.bus_specs.specs.Waits.{Waiting, is_meant, same_frame}
+use Rattle.bus_specs.specs.Waits.{Waiting, same_frame}
 use Rattle.bus_sound.proofs.Among.{Among, filter-among, among-filter, filter_map-among}
 use Rattle.bus_sound.proofs.Lists.{each-All, rise-filter, rise-lower, any_from}
 use Rattle.bus_sound.proofs.Orders.{IsOrder, foremost-among, foremost-is}
@@ -19,7 +17,7 @@ use Rattle.bus_sound.proofs.Foremost.{better, offer-is}
 use Rattle.log_laws.specs.Mirror.{Seen, Mirror, takes_part, seen_is}
 use Rattle.log_laws.specs.Starts.{stronger, ready_from, able, of_node, contenders}
 use Rattle.log_laws.specs.Losers.{offers}
-use Rattle.log_laws.proofs.Rows.{filter-map, filter-place, filter_map-by, any-map, any-same}
+use Rattle.log_laws.proofs.Rows.{filter-map, filter-place, filter_map-by, any-map}
 use Rattle.log_laws.proofs.Groups.{foremost-groups, foremost-map}
 use Rattle.log_laws.proofs.Firsts.{First, shown, meant, frame-same}
 use Rattle.log_laws.proofs.Lawful.{Agrees, seen}

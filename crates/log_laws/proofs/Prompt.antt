@@ -1,27 +1,26 @@
 -- Each start is prompt.
-use Rattle.std.proofs.Common.{◌≡◌, ℕ, zero, suc, ◌+◌, ◌<◌, ◌≤◌, ◌==◌, ◌⊎◌, Bool, true, false, cond, if◌then◌else◌, List, [], ◌∷◌, ◌++◌, map, filter, fold, max, Option, Some, None, arith, refl, ap, ◌∙◌, sym, subst, inl, inr}
-use Rattle.std.specs.Prelude.{◌&&◌, flat_map, option_map, nat_le, ⊤}
+use Rattle.std.proofs.Common.{◌≡◌, ℕ, zero, suc, ◌<◌, ◌≤◌, ◌==◌, Bool, true, false, cond, List, [], ◌∷◌, ◌++◌, map, filter, fold, max, Option, Some, None, arith, refl, ap, ◌∙◌, sym, subst, inl, inr}
+use Rattle.std.specs.Prelude.{flat_map, option_map, nat_le, ⊤}
 use Rattle.std.specs.List.{list_any}
 use Rattle.std.proofs.lemmas.Bool.{and_parts, and_from, both_ways, leb-true, eqb-true, false_from_ne_true}
-use Rattle.std.proofs.lemmas.List.Sums.{fold-append}
 use Rattle.log_specs.specs.Line.{Line, On, Down, Over, End, Told}
 use Rattle.log_specs.specs.Line as log
 use Rattle.bus_specs.specs.Bus.{Bus, Setup, Member, Request, has_request, wants, ready_moment, winner}
 use Rattle.bus_specs.specs.Bus as bus
 use Rattle.bus_specs.specs.Inbox.{take_inbox}
-use Rattle.bus_specs.specs.Submit.{submit, submission_of}
-use Rattle.bus_specs.specs.Start.{losers, loser_told, start_lines, start_with, start}
+use Rattle.bus_specs.specs.Submit.{submission_of}
+use Rattle.bus_specs.specs.Start.{losers, loser_told, start_with, start}
 use Rattle.bus_specs.specs.Finish.{finish, recover}
 use Rattle.bus_specs.specs.Due.{Due, What, Finish, Return, Notices, Start, at, next_due}
 use Rattle.run_specs.specs.Run.{behind, head, then_from}
 use Rattle.play_specs.specs.Scenario.{Action, Scenario, World, opening, next_event, along, takers, action_step, moment_step, event_step, world_behind, status, machine, scenario_lines}
-use Rattle.bus_sound.proofs.Among.{Among, filter-among, among-filter}
+use Rattle.bus_sound.proofs.Among.{Among, filter-among}
 use Rattle.bus_sound.proofs.Lists.{map-among, any_from, each-All}
 use Rattle.bus_sound.proofs.Dues.{start-due}
 use Rattle.bus_sound.proofs.Quiet.{take_inbox-sound}
 use Rattle.log_laws.specs.Scenarios.{Acts, IsScenario}
 use Rattle.log_laws.specs.Mirror.{Seen, Mirror, mirror, mirror_after, new_mirror}
-use Rattle.log_laws.specs.Starts.{able, ready_from, of_node, contenders, moment_after, last_moment, IsPrompt, StartsArePrompt}
+use Rattle.log_laws.specs.Starts.{able, ready_from, of_node, contenders, moment_after, IsPrompt, StartsArePrompt}
 use Rattle.log_laws.specs.Losers.{tells_start}
 use Rattle.log_laws.proofs.Rows.{filter-map}
 use Rattle.log_laws.proofs.Firsts.{shown}
@@ -73,8 +72,8 @@ module _ (b : Bus) (m : Mirror) (since now : ℕ) (a : Agrees m b) (live : (x : 
   pub none-able : (earlier : ℕ) → since ≤ earlier → earlier < now → contenders b.setup m earlier ≡ []
   none-able earlier from before = ap (λ xs. flat_map (λ (x : Seen). of_node m.waits x.node) (filter (able b.setup m earlier) xs)) a.nodes
       ∙ flat-nothing (λ (x : Seen). of_node m.waits x.node) (able b.setup m earlier) (map seen b.members) (λ y k t.
-        let r = map-among seen b.members y k in
-        ap (λ (z : Seen). of_node m.waits z.node) (sym r.2) ∙ nothing-before earlier from before r.0 r.1 (ap (able b.setup m earlier) r.2 ∙ t))
+      let r = map-among seen b.members y k in
+      ap (λ (z : Seen). of_node m.waits z.node) (sym r.2) ∙ nothing-before earlier from before r.0 r.1 (ap (able b.setup m earlier) r.2 ∙ t))
 
 -- prompt starts along lines
 abbrev PromptTold : Setup → Mirror → ℕ → ℕ → Told → Type 0
@@ -153,9 +152,11 @@ module _ (p : Scenario) where
       go (Some r) =
           let rest = setup-of p w.bus h.bus now (map (λ x. On now w.bus.setup.number x.node (loser_told w.bus x)) (losers w.bus now r.node)) (losses-quiet w.bus now (losers w.bus now r.node)) in
           record {
-            prompts = (subst (λ s. IsPrompt s m w.now now) h.bus.setup (record { later = later; not_before = none-able w.bus m w.now now a h.bus.live (start-least w.bus w.now now d) }),
-                quiet-prompts p.setup now (map (λ x. On now w.bus.setup.number x.node (loser_told w.bus x)) (losers w.bus now r.node))
-                (mirror_after p.setup m (On now w.bus.setup.number r.node (log.Start r.frame))) now rest);
+            prompts = (
+              subst (λ s. IsPrompt s m w.now now) h.bus.setup (record { later = later; not_before = none-able w.bus m w.now now a h.bus.live (start-least w.bus w.now now d) }),
+              quiet-prompts p.setup now (map (λ x. On now w.bus.setup.number x.node (loser_told w.bus x)) (losers w.bus now r.node))
+                  (mirror_after p.setup m (On now w.bus.setup.number r.node (log.Start r.frame))) now rest,
+            );
             at = ((refl, ap (λ (s : Setup). s.number) h.bus.setup), quiet-at p.setup now (map (λ x. On now w.bus.setup.number x.node (loser_told w.bus x)) (losers w.bus now r.node)) rest);
           }
 

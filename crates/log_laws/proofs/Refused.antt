@@ -1,5 +1,5 @@
 -- The wrong logs break the laws.
-use Rattle.std.proofs.Common.{◌≡◌, ℕ, ◌+◌, ◌≤◌, Bool, true, false, List, [], ◌∷◌, ◌++◌, All, length, Option, Some, arith, refl, sym, ap, ◌∙◌, subst, inl, inr}
+use Rattle.std.proofs.Common.{◌≡◌, ℕ, ◌+◌, ◌≤◌, true, false, List, [], ◌∷◌, ◌++◌, All, length, Some, None, arith, refl, sym, ap, ◌∙◌, subst, inl, inr}
 use Rattle.std.proofs.lemmas.List.Elements.{All-head}
 use Rattle.std.proofs.lemmas.Bool.{both_ways}
 use Rattle.frame_specs.specs.Frame.{Frame}
@@ -7,14 +7,19 @@ use Rattle.frame_specs.specs.Dominance.{beats}
 use Rattle.frame_specs.specs.Wire.{duration, stuffed, stuff}
 use Rattle.run_specs.specs.Order.{IsForemost}
 use Rattle.bus_specs.specs.Waits.{Waiting}
-use Rattle.log_specs.specs.Line.{Line, On, LostKept, LostGone, Req, Discard, Done, Hurt}
+use Rattle.log_specs.specs.Line.{Line, End, LostKept, LostGone, Req, Discard, Done, Hurt, Start}
 use Rattle.bus_sound.proofs.Lists.{each-All}
 use Rattle.log_laws.specs.Starts.{stronger, StartsAreForemost, StartersTakePart, StartsWhereFree, StartsArePrompt}
 use Rattle.log_laws.specs.Mirror.{Mirror, OnWire, mirror}
-use Rattle.log_laws.specs.Deliveries.{DeliveriesReachListeners, IsDelivery, receivers, hurt_next, time_on_wire}
-use Rattle.log_laws.specs.Losers.{LosersAreTold, LossesStandBehindStarts}
+use Rattle.log_laws.specs.Deliveries.{DeliveriesReachListeners, FailuresAreOfTheFrame, IsDelivery, receivers, hurt_next, time_on_wire}
+use Rattle.log_laws.specs.Losers.{LosersAreTold, LossesStandBehindStarts, DiscardedFramesWait}
 use Rattle.log_laws.specs.Queues.{RequestsFit}
-use Rattle.log_laws.specs.Moments.{MomentsNeverFall}
+use Rattle.log_laws.specs.Moments.{MomentsNeverFall, LinesAreOf, EndsWith, NothingIsLeft}
+use Rattle.log_laws.specs.Accounts.{NothingIsForgotten}
+use Rattle.log_laws.specs.Events.{EndTellsEvents}
+use Rattle.log_laws.specs.KindOrder.{KindsInOrder}
+use Rattle.log_laws.specs.Answers.{Asked, AnswersAll}
+use Rattle.bus_specs.specs.Submit.{Transmit, submission_of}
 use Rattle.log_laws.specs.WrongLogs
 
 at : ℕ → ℕ → ℕ → Waiting
@@ -132,3 +137,59 @@ late-start-refused h =
 
 pub falling-moment-refused : MomentsNeverFall WrongLogs.falling_moment → ⊥
 falling-moment-refused h = let k : 1000 ≤ 0 = h WrongLogs.one_later [] 0 1 1 (Req (WrongLogs.frame 6 1)) refl in omega (arith, k)
+
+pub failed-other-refused : FailuresAreOfTheFrame WrongLogs.plain WrongLogs.nodes WrongLogs.failed_other → ⊥
+unfolding wire
+failed-other-refused h =
+    let d = h WrongLogs.under_way [] 20000 1 0 1 0 (WrongLogs.frame 6 1) refl in
+    let s : wire ≡ (d.runs).wire = some d.runs.running in
+    let k : 5 ≡ 6 = ap (λ (f : Frame). f.id) (ap (λ (w : OnWire). w.frame) s ∙ d.runs.frame) in omega (arith, k)
+  where
+    some : {x y : OnWire} → Some x ≡ Some y → x ≡ y
+    some p = cc
+
+pub second-start-refused : StartsWhereFree WrongLogs.plain WrongLogs.nodes WrongLogs.second_start → ⊥
+unfolding wire
+second-start-refused h =
+    let k : Some wire ≡ None = (h WrongLogs.running_with_one [] 10000 1 1 (WrongLogs.frame 6 1) refl).running in absurd cc
+
+pub discarded-nothing-refused : DiscardedFramesWait WrongLogs.plain WrongLogs.nodes WrongLogs.discarded_nothing → ⊥
+discarded-nothing-refused h = let k : false ≡ true = h WrongLogs.under_way [] 0 1 1 (WrongLogs.frame 6 1) refl in absurd cc
+
+pub forgotten-refused : NothingIsForgotten WrongLogs.plain WrongLogs.nodes WrongLogs.delivered_twice → ⊥
+forgotten-refused h = let k : 1 ≡ 2 = h (λ node f. true) WrongLogs.delivered_twice [] refl in omega (arith, k)
+
+pub after-stop-refused : LinesAreOf WrongLogs.empty WrongLogs.after_stop → ⊥
+after-stop-refused h = let k : 1000 ≤ 0 = (h [] [] 1000 1 0 (Req (WrongLogs.frame 5 1)) refl).within in omega (arith, k)
+
+pub wrong-end-refused : EndsWith 8 1 WrongLogs.wrong_end → ⊥
+wrong-end-refused h = go h.body h.split
+  where
+    go : (body : List Line) → WrongLogs.wrong_end ≡ body ++ End 8 h.events ∷ [] → ⊥
+    go [] e = absurd cc
+    go (x ∷ []) e = let k : End 0 0 ≡ End 8 h.events = cc in eight (status k)
+      where
+        status : {s t n m : ℕ} → End s n ≡ End t m → s ≡ t
+        status q = cc
+
+        eight : ◌≡◌ {A = ℕ} 0 8 → ⊥
+        eight q = omega (arith, q)
+    go (x ∷ y ∷ []) e = absurd cc
+    go (x ∷ y ∷ z ∷ body) e = absurd cc
+
+pub left-undone-refused : NothingIsLeft WrongLogs.empty WrongLogs.left_undone → ⊥
+left-undone-refused h =
+    let k : ◌≡◌ {A = List Waiting} (record { node = 0; frame = WrongLogs.frame 5 1 } ∷ []) [] = h.idle WrongLogs.one_waits 1 refl refl 0 (omega arith) (omega arith) in
+    absurd cc
+
+pub unanswered-refused : AnswersAll WrongLogs.one_asks WrongLogs.unanswered → ⊥
+unfolding submission_of
+unanswered-refused h =
+    let k : ◌≡◌ {A = List Asked} [] (record { moment = 0; node = 0; what = Transmit (WrongLogs.frame 5 1) } ∷ []) = h in absurd cc
+
+pub no-events-refused : EndTellsEvents WrongLogs.wrong_end → ⊥
+no-events-refused h = let k : ◌≡◌ {A = ℕ} 0 1 = h WrongLogs.one_waits 0 0 refl in omega (arith, k)
+
+pub start-first-refused : KindsInOrder WrongLogs.start_first → ⊥
+start-first-refused h =
+    let k : 3 ≤ 2 = h WrongLogs.one_waits [] 0 1 0 1 1 (Start (WrongLogs.frame 5 1)) (Req (WrongLogs.frame 6 1)) refl in omega (arith, k)

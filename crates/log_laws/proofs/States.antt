@@ -1,11 +1,11 @@
 -- The state lines of a finish: which levels are seen behind them, and what waits.
-use Rattle.std.proofs.Common.{◌≡◌, ℕ, ◌+◌, ◌≤◌, ◌==◌, Bool, true, false, not, if◌then◌else◌, List, [], ◌∷◌, ◌++◌, map, filter, Option, Some, None, arith, refl, ap, ◌∙◌, sym, subst, inl, inr, eq-eqb}
-use Rattle.std.specs.Prelude.{◌&&◌, ◌||◌, flat_map, ⊤}
+use Rattle.std.proofs.Common.{◌≡◌, ℕ, ◌+◌, ◌≤◌, ◌==◌, Bool, true, false, not, if◌then◌else◌, List, [], ◌∷◌, ◌++◌, map, filter, arith, refl, ap, ◌∙◌, sym, subst, inl, inr, eq-eqb}
+use Rattle.std.specs.Prelude.{◌&&◌, ◌||◌, flat_map}
 use Rattle.std.specs.List.{list_any}
 use Rattle.std.proofs.lemmas.Bool.{both_ways, eqb-true, false_from_ne_true}
 use Rattle.operation_specs.specs.Operation.{Declared, Active, Passive, Off}
 use Rattle.bus_specs.specs.Counters.{level}
-use Rattle.bus_specs.specs.Bus.{Bus, Setup, Member, Request, Running, off, member_is}
+use Rattle.bus_specs.specs.Bus.{Bus, Member, Request, Running, off, member_is}
 use Rattle.bus_specs.specs.Finish.{same_level, counters_after, member_after_finish, state_lines}
 use Rattle.bus_specs.specs.Sound.{Sound, Rise}
 use Rattle.bus_specs.specs.Waits.{Waiting, waiting_of, at_level}

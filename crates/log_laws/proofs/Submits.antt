@@ -3,15 +3,13 @@ use Rattle.std.proofs.Common.{◌≡◌, ℕ, ◌<◌, ◌≤◌, ◌==◌, Bool
 use Rattle.std.specs.Prelude.{◌+◌, nat_le}
 use Rattle.std.proofs.lemmas.Bool.{leb-true, leb-false}
 use Rattle.frame_specs.specs.Frame.{Frame}
-use Rattle.bus_specs.specs.Bus.{Bus, Setup, Member, Request, Running, off, member_is, waiting, bits}
-use Rattle.bus_specs.specs.Submit.{Submission, Transmit, Keep, Discard, Wakeup, Sleep, Rate, FdRate, Declare, FormatError, Unfit, Fate, Accepted, Full, Dropped, fate, with_request, submit, bus_after_submission, told_of, told_fate, member_after_wakeup, wake_notice, format_notice}
+use Rattle.bus_specs.specs.Bus.{Bus, Member, Running, off, member_is, waiting, bits}
+use Rattle.bus_specs.specs.Submit.{Submission, Transmit, Keep, Discard, Wakeup, Sleep, Rate, FdRate, Declare, FormatError, Unfit, Fate, Accepted, Full, Dropped, fate, with_request, submit, bus_after_submission, told_fate, member_after_wakeup, wake_notice, format_notice}
 use Rattle.bus_specs.specs.Sound.{Sound}
-use Rattle.bus_specs.specs.Waits.{waiting_of}
 use Rattle.log_specs.specs.Line.{Line, On, Told}
 use Rattle.log_specs.specs.Line as log
 use Rattle.bus_sound.proofs.Quiet.{one}
-use Rattle.log_laws.specs.Mirror.{Seen, Mirror, with_node, mirror_told}
-use Rattle.log_laws.specs.Queues.{HasRoom, IsFull, node_off}
+use Rattle.log_laws.specs.Mirror.{Mirror, with_node, mirror_told}
 use Rattle.log_laws.proofs.Rows.{map-append}
 use Rattle.log_laws.proofs.Firsts.{First, first-push, shown}
 use Rattle.log_laws.proofs.Lawful.{Opens, LawfulTold, Follows, Agrees, seen}

@@ -1,8 +1,7 @@
 -- A node takes its inbox, and a node returns from off: their lines, and what is seen behind them.
-use Rattle.std.proofs.Common.{◌≡◌, ℕ, ◌+◌, ◌<◌, ◌≤◌, ◌==◌, ◌⊎◌, Bool, true, false, cond, if◌then◌else◌, List, [], ◌∷◌, ◌++◌, map, filter, fold, Option, Some, None, arith, refl, ap, ◌∙◌, sym, subst, inl, inr, append_assoc}
+use Rattle.std.proofs.Common.{◌≡◌, ℕ, ◌+◌, ◌<◌, ◌==◌, ◌⊎◌, Bool, true, false, cond, if◌then◌else◌, List, [], ◌∷◌, ◌++◌, map, filter, fold, Option, Some, None, arith, refl, ap, ◌∙◌, sym, subst, inl, inr}
 use Rattle.std.specs.Prelude.{◌||◌, flat_map, option_map, option_to_list, is_some, ⊤}
-use Rattle.std.proofs.lemmas.Bool.{both_ways, eqb-true, eqb-false, ne_eqb, false_from_ne_true}
-use Rattle.std.proofs.lemmas.List.Sums.{fold-append}
+use Rattle.std.proofs.lemmas.Bool.{eqb-true}
 use Rattle.bus_specs.specs.Bus.{Bus, Setup, Member, LostNotice, FormatNotice}
 use Rattle.bus_specs.specs.Inbox.{take_inbox, members_at, told_notices, member_after_inbox, due_lost, due_format, due_wake}
 use Rattle.bus_specs.specs.Finish.{recover, member_after_return}
@@ -16,8 +15,8 @@ use Rattle.bus_sound.proofs.Quiet.{one}
 use Rattle.log_laws.specs.Mirror.{Seen, Mirror, mirror_after, mirror_told, nodes_after, with_node}
 use Rattle.log_laws.specs.Deliveries.{hurt_node}
 use Rattle.log_laws.specs.Losers.{tells_loss, loss_next}
-use Rattle.log_laws.proofs.Rows.{map-among-same, map-map, rise-after}
-use Rattle.log_laws.proofs.Lawful.{Opens, Lawful, LawfulTold, Within, Follows, follows-none, Agrees, seen, follow}
+use Rattle.log_laws.proofs.Rows.{map-among-same, map-map}
+use Rattle.log_laws.proofs.Lawful.{Opens, LawfulTold, Within, Follows, Agrees, seen, follow}
 use Rattle.log_laws.proofs.Known.{Offered, own, one-line, with_node-seen}
 
 -- what is told changes nothing but a node, and is lawful anywhere

@@ -1,24 +1,23 @@
 -- Along a run moments never fall.
-use Rattle.std.proofs.Common.{◌≡◌, ℕ, zero, suc, ◌+◌, ◌<◌, ◌≤◌, ◌==◌, ◌⊎◌, Bool, true, false, cond, if◌then◌else◌, List, [], ◌∷◌, ◌++◌, filter, fold, IfSome, Option, Some, None, arith, refl, ap, ◌∙◌, sym, subst, inl, inr}
+use Rattle.std.proofs.Common.{◌≡◌, ℕ, zero, suc, ◌<◌, ◌≤◌, ◌==◌, ◌⊎◌, Bool, true, false, cond, if◌then◌else◌, List, [], ◌∷◌, ◌++◌, filter, fold, IfSome, Option, Some, None, arith, refl, ap, ◌∙◌, sym, subst, inl, inr}
 use Rattle.std.specs.Prelude.{◌&&◌, nat_le, nat_lt, option_map, ⊤}
 use Rattle.std.proofs.lemmas.Bool.{and_parts, or_cases, eqb-true, ltb-true}
 use Rattle.std.proofs.lemmas.List.Sums.{fold-append}
 use Rattle.bus_specs.specs.Bus.{Bus, Setup, new_bus}
 use Rattle.bus_specs.specs.Inbox.{enter, take_inbox}
-use Rattle.bus_specs.specs.Submit.{submit, submission_of}
+use Rattle.bus_specs.specs.Submit.{submission_of}
 use Rattle.bus_specs.specs.Due.{Due, What, Finish, Return, Notices, Start, rank, precedes, at, next_due}
 use Rattle.bus_specs.specs.InTime.{InTime}
-use Rattle.run_specs.specs.Order.{better_of}
-use Rattle.log_specs.specs.Line.{Line, On, Down, Over, End, Told}
+use Rattle.log_specs.specs.Line.{Line, On, Down, Over, End}
 use Rattle.run_specs.specs.Run.{behind, head, then_from}
-use Rattle.play_specs.specs.Scenario.{Action, Scenario, World, opening, or_asked, up_to, next_event, along, takers, action_step, moment_step, event_step, left_ahead, world_behind, status, machine, scenario_lines}
-use Rattle.bus_sound.proofs.Among.{Among, filter-among}
+use Rattle.play_specs.specs.Scenario.{Action, Scenario, World, opening, or_asked, up_to, next_event, along, takers, action_step, event_step, left_ahead, world_behind, status, machine, scenario_lines}
+use Rattle.bus_sound.proofs.Among.{filter-among}
 use Rattle.bus_sound.proofs.Dues.{not-before}
 use Rattle.bus_sound.proofs.Timed.{new_bus-in-time, enter-in-time, submit-in-time, take-in-time, start-in-time, finish-in-time, recover-in-time, next-in-time}
 use Rattle.bus_sound.proofs.Later.{later}
 use Rattle.log_laws.specs.Scenarios.{IsScenario}
 use Rattle.log_laws.specs.Mirror.{Mirror, new_mirror}
-use Rattle.log_laws.specs.Starts.{moment_after, last_moment}
+use Rattle.log_laws.specs.Starts.{moment_after}
 use Rattle.log_laws.specs.Moments.{Rising, ByMoment, MomentsNeverFall}
 use Rattle.log_laws.proofs.Lawful.{Agrees, follow}
 use Rattle.log_laws.proofs.Known.{Offered}
@@ -29,9 +28,9 @@ use Rattle.log_laws.proofs.Played.{RunWorld, own-start, after-sound, opening-sou
 use Rattle.log_laws.proofs.Followed.{all-pairs, event-goes, opening-agrees}
 
 -- what happens next comes before all that is due and asked
-record Before (w : World) (d : Due) : Type 0 where
-  due : IfSome (next_due w.bus w.now) (λ c. d.moment ≤ c.moment)
-  asked : Rising w.now w.ahead → Rising d.moment w.ahead
+pub record Before (w : World) (d : Due) : Type 0 where
+  pub due : IfSome (next_due w.bus w.now) (λ c. d.moment ≤ c.moment)
+  pub asked : Rising w.now w.ahead → Rising d.moment w.ahead
 
 pub no-later : (x c : Due) → precedes x c ≡ true → x.moment ≤ c.moment
 no-later x c h = go (or_cases (nat_lt x.moment c.moment) ((x.moment == c.moment) && nat_lt (rank x.what) (rank c.what)) h)
@@ -40,7 +39,7 @@ no-later x c h = go (or_cases (nat_lt x.moment c.moment) ((x.moment == c.moment)
     go (inl e) = let l = ltb-true x.moment c.moment e in omega (arith, l)
     go (inr e) = let s = eqb-true x.moment c.moment (and_parts (x.moment == c.moment) (nat_lt (rank x.what) (rank c.what)) e).0 in omega (arith, s)
 
-before-all : (stop : ℕ) (w : World) (d : Due) → next_event stop w ≡ Some d → Before w d
+pub before-all : (stop : ℕ) (w : World) (d : Due) → next_event stop w ≡ Some d → Before w d
 unfolding next_event
 before-all stop w d e = asks w.ahead refl (next_due w.bus w.now) refl (below (or_asked (next_due w.bus w.now) w.ahead) e)
   where
@@ -81,11 +80,11 @@ before-all stop w d e = asks w.ahead refl (next_due w.bus w.now) refl (below (or
             by m (inr l) = omega (arith, l.0, m)
 
 -- later actions
-rising-lower : (from to : ℕ) (as' : List Action) → from ≤ to → Rising to as' → Rising from as'
+pub rising-lower : (from to : ℕ) (as' : List Action) → from ≤ to → Rising to as' → Rising from as'
 rising-lower from to [] l h = tt
 rising-lower from to (a ∷ as') l h = (omega (arith, l, h.0), h.1)
 
-rising-filter : (p : Action → Bool) (from : ℕ) (as' : List Action) → Rising from as' → Rising from (filter p as')
+pub rising-filter : (p : Action → Bool) (from : ℕ) (as' : List Action) → Rising from as' → Rising from (filter p as')
 rising-filter p from [] h = tt
 rising-filter p from (a ∷ as') h = go (p a) (rising-filter p a.moment as' h.1)
   where
@@ -93,9 +92,9 @@ rising-filter p from (a ∷ as') h = go (p a) (rising-filter p a.moment as' h.1)
     go true k = (h.0, k)
     go false k = rising-lower from a.moment (filter p as') h.0 k
 
-record InOrder (w : World) : Type 0 where
-  time : InTime w.now w.bus
-  ahead : Rising w.now w.ahead
+pub record InOrder (w : World) : Type 0 where
+  pub time : InTime w.now w.bus
+  pub ahead : Rising w.now w.ahead
 
 module _ (p : Scenario) where
   event-in-time : (w : World) (now : ℕ) (what : What) → InTime now w.bus → InTime now (event_step w now what).0
@@ -125,7 +124,7 @@ module _ (p : Scenario) where
       go (inr k) = let l = first w.ahead k.action k.rest k.ahead o.ahead in
           let m : d.moment ≡ k.action.moment = ap (λ (x : Due). x.moment) k.due in omega (arith, l, m)
 
-  stays-in-order : (w : World) (d : Due) → next_event p.stop w ≡ Some d → InOrder w → InOrder (world_behind w d).0
+  pub stays-in-order : (w : World) (d : Due) → next_event p.stop w ≡ Some d → InOrder w → InOrder (world_behind w d).0
   stays-in-order w d e o = let b = before-all p.stop w d e in record {
     time = event-in-time w d.moment d.what (later w.bus w.now d.moment b.due);
     ahead = left-rising w d.moment d.what (b.asked o.ahead);
@@ -135,7 +134,7 @@ module _ (p : Scenario) where
   all-enter-time [] b t = t
   all-enter-time (n ∷ ns) b t = all-enter-time ns (enter b n) (enter-in-time 0 b n t)
 
-  opening-in-order : ByMoment p → InOrder (opening p)
+  pub opening-in-order : ByMoment p → InOrder (opening p)
   opening-in-order h = record { time = all-enter-time p.nodes (new_bus p.setup p.nodes) (new_bus-in-time p.setup p.nodes); ahead = h }
 
 -- lines no earlier than this and than those before them

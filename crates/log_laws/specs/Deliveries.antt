@@ -1,5 +1,5 @@
 -- Which nodes receive a frame, read off the lines before its end.
-use Rattle.std.specs.Prelude.{◌≡◌, ℕ, ◌+◌, ◌*◌, unwrap_or, ◌&&◌, Bool, true, not, All, List, [], ◌∷◌, ◌++◌, filter, map, Option, Some, None}
+use Rattle.std.specs.Prelude.{◌≡◌, ℕ, ◌+◌, ◌*◌, unwrap_or, ◌&&◌, true, not, All, List, [], ◌∷◌, ◌++◌, filter, map, Option, Some, None}
 use Rattle.frame_specs.specs.Frame.{Frame}
 use Rattle.frame_specs.specs.Wire.{duration, time_of}
 use Rattle.bus_specs.specs.Bus.{Setup, among, is}

@@ -6,4 +6,7 @@ pub mod Losers
 pub mod Queues
 pub mod Accounts
 pub mod Moments
+pub mod Answers
+pub mod Events
+pub mod KindOrder
 pub mod WrongLogs

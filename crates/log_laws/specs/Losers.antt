@@ -1,12 +1,12 @@
 -- Which nodes lose at a start, read off the lines before it.
-use Rattle.std.specs.Prelude.{◌≡◌, ℕ, ◌==◌, Bool, true, false, not, List, [], ◌∷◌, ◌++◌, filter, filter_map, map, Option, if◌then◌else◌}
+use Rattle.std.specs.Prelude.{◌≡◌, ℕ, ◌==◌, Bool, true, false, not, List, [], ◌∷◌, ◌++◌, filter, filter_map, map, if◌then◌else◌}
 use Rattle.std.specs.List.{list_any}
 use Rattle.frame_specs.specs.Frame.{Frame}
 use Rattle.run_specs.specs.Order.{foremost}
 use Rattle.bus_specs.specs.Bus.{Setup}
 use Rattle.bus_specs.specs.Waits.{Waiting, is_meant}
 use Rattle.log_specs.specs.Line.{Line, On, Down, Over, End, Told, Start, LostKept, LostGone}
-use Rattle.log_laws.specs.Mirror.{Seen, Mirror, mirror, seen_is}
+use Rattle.log_laws.specs.Mirror.{Mirror, mirror, seen_is}
 use Rattle.log_laws.specs.Starts.{stronger, able, of_node}
 
 abbrev pub tells_loss : Told → Bool

@@ -2,10 +2,10 @@
 use Rattle.std.specs.Prelude.{ℕ, ◌+◌, ◌*◌, ◌==◌, ◌&&◌, Bool, true, false, not, List, [], filter, fold, map, Option, Some, None, if◌then◌else◌}
 use Rattle.std.specs.List.{list_any}
 use Rattle.frame_specs.specs.Frame.{Frame}
-use Rattle.operation_specs.specs.Operation.{Declared, Active, Passive, Off}
+use Rattle.operation_specs.specs.Operation.{Declared, Active, Off}
 use Rattle.bus_specs.specs.Bus.{Setup}
 use Rattle.bus_specs.specs.Finish.{same_level}
-use Rattle.bus_specs.specs.Waits.{Waiting, heard, waiting_after, without_node}
+use Rattle.bus_specs.specs.Waits.{Waiting, heard, without_node}
 use Rattle.log_specs.specs.Line.{Line, On, Down, Over, End, Told, Start, Done, Fail, Sleep, Wake, ToldWake, Keep, Discard, State, Back}
 
 -- a node: whether it is awake, whether it discards what loses arbitration, its fault confinement state

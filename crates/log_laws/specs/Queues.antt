@@ -2,7 +2,6 @@
 use Rattle.std.specs.Prelude.{◌≡◌, ◌≤◌, ◌<◌, ℕ, ◌==◌, Bool, true, false, List, ◌∷◌, ◌++◌, count_by}
 use Rattle.frame_specs.specs.Frame.{Frame}
 use Rattle.bus_specs.specs.Bus.{Setup}
-use Rattle.bus_specs.specs.Waits.{Waiting}
 use Rattle.log_specs.specs.Line.{Line, On, Req, Full, Drop}
 use Rattle.log_laws.specs.Mirror.{Mirror, mirror, is_off, seen_is}
 

@@ -1,10 +1,12 @@
 -- Logs that no bus has, each wrong in one thing.
-use Rattle.std.specs.Prelude.{◌≡◌, refl, ℕ, Bool, true, false, List, [], ◌∷◌, ◌++◌, None}
+use Rattle.std.specs.Prelude.{◌≡◌, refl, ℕ, false, List, [], ◌∷◌, ◌++◌, None}
 use Rattle.frame_specs.specs.Frame.{Frame, Data}
 use Rattle.frame_specs.specs.Wire.{duration, stuffed, stuff}
-use Rattle.operation_specs.specs.Operation.{Off}
+use Rattle.operation_specs.specs.Operation.{Off, Transmit}
+use Rattle.operation_specs.specs.Reading.{Op}
 use Rattle.bus_specs.specs.Bus.{Setup}
-use Rattle.log_specs.specs.Line.{Line, On, Told, Req, Full, Drop, Start, LostKept, LostGone, Discard, Sleep, State, Done, Fail, Hurt}
+use Rattle.play_specs.specs.Scenario.{Scenario}
+use Rattle.log_specs.specs.Line.{Line, On, End, Told, Req, Full, Start, LostKept, LostGone, Discard, Sleep, State, Done, Fail, Hurt}
 
 -- 1,000 ticks a bit
 abbrev pub plain : Setup
@@ -127,3 +129,45 @@ one_later = on 1000 0 (Req (frame 5 1)) ∷ []
 
 abbrev pub falling_moment : List Line
 falling_moment = one_later ++ on 0 1 (Req (frame 6 1)) ∷ []
+
+-- a frame fails that isn't on the wire
+abbrev pub failed_other : List Line
+failed_other = under_way ++ on 20000 0 (Fail (frame 6 1) 1 0) ∷ []
+
+-- a frame starts while one runs
+abbrev pub running_with_one : List Line
+running_with_one = under_way ++ on 10000 1 (Req (frame 6 1)) ∷ []
+
+abbrev pub second_start : List Line
+second_start = running_with_one ++ on 10000 1 (Start (frame 6 1)) ∷ []
+
+-- a frame is discarded that nobody requested
+abbrev pub discarded_nothing : List Line
+discarded_nothing = under_way ++ on 0 1 (LostGone (frame 6 1)) ∷ []
+
+-- nothing is asked, and the run stops at once
+abbrev pub empty : Scenario
+empty = record { setup = plain; nodes = nodes; stop = 0; actions = [] }
+
+-- a line after the stop
+abbrev pub after_stop : List Line
+after_stop = on 1000 0 (Req (frame 5 1)) ∷ []
+
+-- a log that ends as if nothing had happened and nothing were left
+abbrev pub wrong_end : List Line
+wrong_end = one_waits ++ End 0 0 ∷ []
+
+-- a frame that could start is left
+abbrev pub left_undone : List Line
+left_undone = one_waits ++ End 0 1 ∷ []
+
+-- a node sends a frame, and the log doesn't tell
+abbrev pub one_asks : Scenario
+one_asks = record { setup = plain; nodes = nodes; stop = 0; actions = record { moment = 0; node = 0; item = Op (Transmit (frame 5 1)) } ∷ [] }
+
+abbrev pub unanswered : List Line
+unanswered = End 0 0 ∷ []
+
+-- a frame starts before the lines of its moment
+abbrev pub start_first : List Line
+start_first = one_waits ++ on 0 0 (Start (frame 5 1)) ∷ on 0 1 (Req (frame 6 1)) ∷ []

@@ -3,7 +3,7 @@
 //! from the lines before it.
 #![tactic(auto)]
 
-ghost use Rattle.std.specs.Prelude.{ℕ};
+ghost use Rattle.std.specs.Prelude.{◌≡◌, ◌≤◌, ℕ};
 ghost use Rattle.play_specs.specs.Scenario.{Scenario, scenario_lines, scenario_status};
 ghost use Rattle.log_laws.specs.Scenarios.{IsScenario};
 ghost use Rattle.log_laws.specs.Starts.{StartsAreForemost, StartersTakePart, StartsWhereFree, StartsArePrompt};
@@ -11,7 +11,10 @@ ghost use Rattle.log_laws.specs.Deliveries.{DeliveriesReachListeners, FailuresAr
 ghost use Rattle.log_laws.specs.Losers.{LosersAreTold, LossesStandBehindStarts, DiscardedFramesWait};
 ghost use Rattle.log_laws.specs.Queues.{RequestsFit};
 ghost use Rattle.log_laws.specs.Accounts.{NothingIsForgotten};
-ghost use Rattle.log_laws.specs.Moments.{ByMoment, MomentsNeverFall, LinesAreOf, EndsWith, GoesOn};
+ghost use Rattle.log_laws.specs.Moments.{ByMoment, MomentsNeverFall, LinesAreOf, EndsWith, GoesOn, NothingIsLeft};
+ghost use Rattle.log_laws.specs.Answers.{AnswersAll};
+ghost use Rattle.log_laws.specs.Events.{EndTellsEvents};
+ghost use Rattle.log_laws.specs.KindOrder.{KindsInOrder};
 ghost use Rattle.log_laws.specs.WrongLogs as wrong;
 
 /// A start is of the frame that wins among what waits of the nodes able to start: those that are awake
@@ -62,6 +65,10 @@ pub fn each_request_finds_its_fate()
 /// went off, and still waiting.
 pub fn nothing_accepted_is_forgotten()
     ensures balance { (budget : ℕ) (p : Scenario) → IsScenario p → NothingIsForgotten p.setup p.nodes (scenario_lines budget p) }
+
+    // Where a run ends with status 0 nothing is left: no frame could start up to the stop, or the one on
+    // the wire ends after it.
+    ensures left { (budget : ℕ) (p : Scenario) → IsScenario p → NothingIsLeft p (scenario_lines budget p) }
 {}
 
 /// Where what is asked stands by moment, the moments of a log never fall. Its lines are of its bus, and
@@ -69,6 +76,9 @@ pub fn nothing_accepted_is_forgotten()
 pub fn moments_never_fall()
     ensures later { (budget : ℕ) (p : Scenario) → IsScenario p → ByMoment p → MomentsNeverFall (scenario_lines budget p) }
     ensures own { (budget : ℕ) (p : Scenario) → IsScenario p → LinesAreOf p (scenario_lines budget p) }
+
+    // At one moment a frame ends, nodes return, lines of nodes come, a frame starts, in this order.
+    ensures kinds { (budget : ℕ) (p : Scenario) → IsScenario p → 1 ≤ p.setup.nominal → KindsInOrder (scenario_lines budget p) }
 {}
 
 /// The last line of a log, and no other, tells the status and the number of events. The status is 8
@@ -77,6 +87,17 @@ pub fn moments_never_fall()
 pub fn each_log_ends_with_its_status()
     ensures ends { (budget : ℕ) (p : Scenario) → IsScenario p → EndsWith (scenario_status budget p) budget (scenario_lines budget p) }
     ensures goes_on { (budget more : ℕ) (p : Scenario) → GoesOn budget more p }
+
+    // Where a bit takes a tick at least, the number is that of starts, ends, returns and moments with
+    // lines of nodes.
+    ensures events { (budget : ℕ) (p : Scenario) → IsScenario p → ByMoment p → 1 ≤ p.setup.nominal → EndTellsEvents (scenario_lines budget p) }
+{}
+
+/// Where a run ends with status 0, its log answers each action up to the stop, in their order, and
+/// nothing else: none is lost, and none is made up.
+pub fn each_action_is_answered()
+    ensures answered { (budget : ℕ) (p : Scenario) → IsScenario p → ByMoment p → scenario_status budget p ≡ 0
+        → AnswersAll p (scenario_lines budget p) }
 {}
 
 /// Logs that are wrong in one thing are refused, each by the law that it breaks.
@@ -98,4 +119,14 @@ pub fn wrong_logs_are_refused()
     ensures late_end { DeliveriesReachListeners wrong.plain wrong.nodes wrong.late_end → ⊥ }
     ensures late_start { StartsArePrompt wrong.plain wrong.nodes wrong.late_start → ⊥ }
     ensures falling_moment { MomentsNeverFall wrong.falling_moment → ⊥ }
+    ensures failed_other { FailuresAreOfTheFrame wrong.plain wrong.nodes wrong.failed_other → ⊥ }
+    ensures second_start { StartsWhereFree wrong.plain wrong.nodes wrong.second_start → ⊥ }
+    ensures discarded_nothing { DiscardedFramesWait wrong.plain wrong.nodes wrong.discarded_nothing → ⊥ }
+    ensures forgotten { NothingIsForgotten wrong.plain wrong.nodes wrong.delivered_twice → ⊥ }
+    ensures after_stop { LinesAreOf wrong.empty wrong.after_stop → ⊥ }
+    ensures wrong_end { EndsWith 8 1 wrong.wrong_end → ⊥ }
+    ensures start_first { KindsInOrder wrong.start_first → ⊥ }
+    ensures no_events { EndTellsEvents wrong.wrong_end → ⊥ }
+    ensures unanswered { AnswersAll wrong.one_asks wrong.unanswered → ⊥ }
+    ensures left_undone { NothingIsLeft wrong.empty wrong.left_undone → ⊥ }
 {}

@@ -1,3 +1,4 @@
+use Rattle.log_laws.proofs.Ranks.{kinds-in-order}
 use Rattle.log_laws.proofs.Timed.{never-fall}
 use Rattle.log_laws.proofs.Endings.{lines-are-of}
 use Rattle.log_laws.proofs.moments_never_fall.Goals as goal
@@ -7,3 +8,6 @@ returns-clause-later c = never-fall
 
 pub returns-clause-own : goal.returns-clause-own
 returns-clause-own c = lines-are-of
+
+pub returns-clause-kinds : goal.returns-clause-kinds
+returns-clause-kinds c = kinds-in-order

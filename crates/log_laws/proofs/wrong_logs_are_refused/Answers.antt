@@ -1,4 +1,4 @@
-use Rattle.log_laws.proofs.Refused.{latest-refused, beaten-refused, higher-refused, sleeping-sender-refused, early-refused, sleeping-receiver-refused, hurt-receiver-refused, missed-receiver-refused, delivered-twice-refused, silent-loser-refused, kept-for-discard-refused, loser-of-nothing-refused, accepted-off-refused, full-too-soon-refused, late-end-refused, late-start-refused, falling-moment-refused}
+use Rattle.log_laws.proofs.Refused.{latest-refused, beaten-refused, higher-refused, sleeping-sender-refused, early-refused, sleeping-receiver-refused, hurt-receiver-refused, missed-receiver-refused, delivered-twice-refused, silent-loser-refused, kept-for-discard-refused, loser-of-nothing-refused, accepted-off-refused, full-too-soon-refused, late-end-refused, late-start-refused, falling-moment-refused, failed-other-refused, second-start-refused, discarded-nothing-refused, forgotten-refused, after-stop-refused, wrong-end-refused, left-undone-refused, unanswered-refused, no-events-refused, start-first-refused}
 use Rattle.log_laws.proofs.wrong_logs_are_refused.Goals as goal
 
 pub returns-clause-latest_of_equals : goal.returns-clause-latest_of_equals
@@ -51,3 +51,33 @@ returns-clause-late_start c = late-start-refused
 
 pub returns-clause-falling_moment : goal.returns-clause-falling_moment
 returns-clause-falling_moment c = falling-moment-refused
+
+pub returns-clause-failed_other : goal.returns-clause-failed_other
+returns-clause-failed_other c = failed-other-refused
+
+pub returns-clause-second_start : goal.returns-clause-second_start
+returns-clause-second_start c = second-start-refused
+
+pub returns-clause-discarded_nothing : goal.returns-clause-discarded_nothing
+returns-clause-discarded_nothing c = discarded-nothing-refused
+
+pub returns-clause-forgotten : goal.returns-clause-forgotten
+returns-clause-forgotten c = forgotten-refused
+
+pub returns-clause-after_stop : goal.returns-clause-after_stop
+returns-clause-after_stop c = after-stop-refused
+
+pub returns-clause-wrong_end : goal.returns-clause-wrong_end
+returns-clause-wrong_end c = wrong-end-refused
+
+pub returns-clause-left_undone : goal.returns-clause-left_undone
+returns-clause-left_undone c = left-undone-refused
+
+pub returns-clause-unanswered : goal.returns-clause-unanswered
+returns-clause-unanswered c = unanswered-refused
+
+pub returns-clause-no_events : goal.returns-clause-no_events
+returns-clause-no_events c = no-events-refused
+
+pub returns-clause-start_first : goal.returns-clause-start_first
+returns-clause-start_first c = start-first-refused
