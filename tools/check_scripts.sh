@@ -53,9 +53,18 @@ refused 2 'has no line feed' "${header}0 0 send 000#"
 "$BENCH" play "$docs/picture.play" > picture.log
 "$here/picture" picture.log > picture.svg
 cmp picture.svg "$docs/picture.svg" || fail "docs/picture.svg isn't what tools/picture draws of docs/picture.play"
-"$here/explain" "$docs/picture.play" | grep -q 'a play' || fail "explain: docs/picture.play"
+"$here/explain" "$docs/picture.play" > answer
+grep -q 'a play' answer || fail "explain: docs/picture.play"
 python3 -c 'import sys, xml.dom.minidom; xml.dom.minidom.parse(sys.argv[1])' picture.svg
-"$here/picture" picture.log 0 200000 | grep -q 'lost 100# keep' || fail "picture: a lost arbitration is missing"
+"$here/picture" picture.log 0 200000 > part.svg
+grep -q '>lost 100# keep<' part.svg || fail "picture: a lost arbitration is missing"
+grep -q '>0ff#<' part.svg || fail "picture: the identifier of a frame is missing"
+for log in "$docs"/../examples/plays/*.log; do
+  [ -e "$log" ] || continue
+  "$here/picture" "$log" > part.svg || fail "picture: $log"
+  "$here/candump" "$log" "${log%.log}.play" > frames || fail "candump: $log"
+  [ "$(wc -l < frames)" = "$(grep -c ' done ' "$log")" ] || fail "candump: the lines of $log"
+done
 if echo '0 0 nothing' > bad.log; "$here/picture" bad.log > /dev/null 2>&1; then fail "picture: a bad log is drawn"; fi
 
 # All kinds of frames, as candump has them.
