@@ -8,6 +8,7 @@ trap 'rm -rf "$folder"' EXIT
 cd "$folder"
 printf 'play 1000000000 500000 2000000 2 1000000\n0 0 send 000#\n' > good.play
 printf 'play 1000000000 500000 2000000 2 1000000\n0 0 send 800#\n' > bad.play
+printf 'play 1000000000 500000 0 1 4611686018427387904\n0 0 send 000#\n' > lone.play
 
 # expect STATUS LINE OUTPUT WORDS..
 expect() {
@@ -26,3 +27,5 @@ expect 2 "usage" log play
 expect 3 "refused main Line 2 0" log play bad.play
 expect 4 "unread main" log play missing.play
 expect 5 "unwritten" /dev/full play good.play
+# Nobody acknowledges, so the sender tries again until the budget of a million events is used.
+expect 8 "spent" /dev/null play lone.play
