@@ -1,0 +1,11 @@
+//! How modules are spelled (WebAssembly Core 1.0, section 5), as definitions that other crates cite: the table of
+//! opcodes, the grammar, and what is read from bytes or the first fault. The only code is the table.
+#![tactic(auto)]
+
+mod fault;
+mod opcodes;
+mod section;
+
+pub use fault::Fault;
+pub use opcodes::{Group, Indexed, Kind, Operands, Row, Simple, Types, row_of};
+pub use section::SectionKind;
