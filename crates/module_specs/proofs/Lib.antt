@@ -1,0 +1,5 @@
+pub mod Places
+pub mod Regions
+pub mod Readers
+pub mod ValueTypes
+pub mod Loops
