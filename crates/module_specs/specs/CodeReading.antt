@@ -2,7 +2,6 @@
 use Rattle.std.specs.Prelude.{ℕ, zero, suc, ◌-◌, List, [], ◌∷◌, ◌++◌, length, replicate, Option, Ok, Err, nat_lt, if◌then◌else◌}
 use Rattle.wasm_types.specs.declared.instr.ValType.{ValType}
 use Rattle.wasm_types.specs.declared.instr.ValType.TheVariants.{I32, I64}
-use Rattle.wasm_types.specs.declared.instr.Instr.{Instr}
 use Rattle.wasm_types.specs.declared.instr.Instr.TheVariants as instr
 use Rattle.wasm_types.specs.Nested.{Code, Nil, Leaf, InBlock, InLoop, IfOnly, IfElse}
 use Rattle.wasm_types.specs.Modules.{NestedFunc}
@@ -11,16 +10,11 @@ use Rattle.module_specs.specs.declared.opcodes.Kind.{Kind}
 use Rattle.module_specs.specs.declared.opcodes.Kind.TheVariants as kind
 use Rattle.module_specs.specs.declared.opcodes.Group.{Group}
 use Rattle.module_specs.specs.declared.opcodes.Group.TheVariants as group
+use Rattle.module_specs.specs.declared.token.Token.{Token}
+use Rattle.module_specs.specs.declared.token.Token.TheVariants.{Plain, Opens, Else, End}
 use Rattle.module_specs.specs.Opcodes.{group_of, simple_instr, indexed_instr}
 use Rattle.module_specs.specs.CodeSpelling.{most_nested, most_locals}
 use Rattle.module_specs.specs.Reading.{Read, ◌>>=◌, refuse_if, byte_at, u32_at, s32_at, s64_at, zero_at, type_at, block_type_at, vector_at, sized_at}
-
--- an instruction, or the part of one that opens or closes a list
-pub data Token : Type 0 where
-  Plain : (instr : Instr) → Token
-  Opens : (kind : Kind) → Token
-  Else : Token
-  End : Token
 
 -- what follows the opcode at a place
 abbrev pub immediates_at : List ℕ → ℕ → ℕ → ℕ → Group → Read Token

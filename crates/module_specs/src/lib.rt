@@ -5,7 +5,9 @@
 mod fault;
 mod opcodes;
 mod section;
+mod token;
 
 pub use fault::Fault;
 pub use opcodes::{Group, Indexed, Kind, Operands, Row, Simple, Types, row_of};
 pub use section::SectionKind;
+pub use token::Token;
