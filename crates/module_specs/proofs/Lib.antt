@@ -3,3 +3,4 @@ pub mod Regions
 pub mod Readers
 pub mod ValueTypes
 pub mod Loops
+pub mod Within

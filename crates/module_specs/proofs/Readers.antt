@@ -60,7 +60,7 @@ abbrev pub cons_read : {A : Type 0} → A → List A × ℕ → Read (List A)
 cons_read x xs = Ok (x ∷ xs.0, xs.1)
 
 -- a region's content that is read to its end
-abbrev full_at : {A : Type 0} → Fault → ℕ → A × ℕ → Read A
+abbrev pub full_at : {A : Type 0} → Fault → ℕ → A × ℕ → Read A
 full_at early stop x = refuse_if (nat_lt x.1 stop) early >>= λ full. Ok x
 
 module _ {A : Type 0} (S : A → List ℕ → Type 0) (item : List ℕ → ℕ → Read A) (tells : Tells S item) where

@@ -29,7 +29,7 @@ module _ (b : List ℕ) (stop : ℕ) (le : stop ≤ length b) where
       let n : stop - at ≡ length text + (stop - next) = omega (arith, h.size) in
       record {
         whole = region_rest at (omega (arith, h.size)) ∙ ap (λ k. take k (drop at b)) n ∙ ap (take (length text + (stop - next))) h.whole
-          ∙ take_behind text (drop next b) (stop - next) ∙ ap (λ l. text ++ l) (sym (region_rest next small));
+            ∙ take_behind text (drop next b) (stop - next) ∙ ap (λ l. text ++ l) (sym (region_rest next small));
         size = h.size;
         within = omega (arith, region_size);
       }
@@ -41,8 +41,8 @@ module _ (b : List ℕ) (stop : ℕ) (le : stop ≤ length b) where
       let whole_at = split at (omega (arith, h.size)) in
       record {
         whole = whole_at ∙ ap (λ l. l ++ drop (stop - at) (drop at b)) (sym (region_rest at (omega (arith, h.size))) ∙ h.whole)
-          ∙ append_assoc text (drop next (take stop b)) (drop (stop - at) (drop at b))
-          ∙ ap (λ l. text ++ l) (ap (λ l. l ++ drop (stop - at) (drop at b)) (region_rest next small) ∙ ap (λ l. take (stop - next) (drop next b) ++ l) (same_end at next (omega (arith, h.size)) small) ∙ sym (split next small));
+            ∙ append_assoc text (drop next (take stop b)) (drop (stop - at) (drop at b))
+            ∙ ap (λ l. text ++ l) (ap (λ l. l ++ drop (stop - at) (drop at b)) (region_rest next small) ∙ ap (λ l. take (stop - next) (drop next b) ++ l) (same_end at next (omega (arith, h.size)) small) ∙ sym (split next small));
         size = h.size;
         within = omega arith;
       }

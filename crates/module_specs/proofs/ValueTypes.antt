@@ -46,8 +46,8 @@ type_line : (byte n : ℕ) (t u : ValType) (next k : ℕ) (other : Read ValType)
 type_line byte n t u next k other is e =
     elim (chosen (eqb byte n) (typed (u, next)) other (Ok (t, k)) e) [
       | inl x ↦
-        let same = ok_is (u, next) (t, k) x.1 in
-        inl (eqb-true byte n x.0 ∙ is ∙ ap (λ (p : ValType × ℕ). type_byte p.0) same, ap (λ (p : ValType × ℕ). p.1) same)
+          let same = ok_is (u, next) (t, k) x.1 in
+          inl (eqb-true byte n x.0 ∙ is ∙ ap (λ (p : ValType × ℕ). type_byte p.0) same, ap (λ (p : ValType × ℕ). p.1) same)
       | inr x ↦ inr x
     ]
 
@@ -74,12 +74,12 @@ block_type_found at next byte k r e =
     let none : Option ValType × ℕ = (None, next) in
     elim (chosen (eqb byte 0x40) (Ok none) (mapped (λ t. Some t) (type_of at next byte)) (Ok (r, k)) e) [
       | inl x ↦
-        let same = ok_is none (r, k) x.1 in
-        (eqb-true byte 0x40 x.0 ∙ ap (λ (p : Option ValType × ℕ). block_byte p.0) same, ap (λ (p : Option ValType × ℕ). p.1) same)
+          let same = ok_is none (r, k) x.1 in
+          (eqb-true byte 0x40 x.0 ∙ ap (λ (p : Option ValType × ℕ). block_byte p.0) same, ap (λ (p : Option ValType × ℕ). p.1) same)
       | inr x ↦
-        let s = mapped_ok (λ t. Some t) (type_of at next byte) r k x in
-        let f = type_found at next byte k s.0 s.1 in
-        (f.0 ∙ ap block_byte (sym s.2), f.1)
+          let s = mapped_ok (λ t. Some t) (type_of at next byte) r k x in
+          let f = type_found at next byte k s.0 s.1 in
+          (f.0 ∙ ap block_byte (sym s.2), f.1)
     ]
 
 module _ (b : List ℕ) where

@@ -6,4 +6,5 @@ pub mod ModuleSpelling
 pub mod Reading
 pub mod CodeReading
 pub mod ModuleReading
+pub mod Faults
 pub mod Worked
