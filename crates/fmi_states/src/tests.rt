@@ -1,6 +1,6 @@
 use crate::{
-    Broken, Call, Ecu, FmiStatus, ListEcu, Phase, Qualifier, Replies, Reply, call_in_turn, next,
-    other_units_stay, permitted,
+    Broken, Call, Ecu, FmiStatus, ListEcu, Phase, Qualifier, Replies, Reply, call_in_turn,
+    new_parts_are_apart, next, other_units_stay, permitted,
 };
 use can_frame::Bytes;
 use std::alloc::{AllocError, Global};
@@ -218,5 +218,6 @@ fn the_second_call_waits_for_the_first(rt: HostRuntime) -> Result<(), Fail> {
         assert_eq!(rt; unit.phase(), phase);
     }
     other_units_stay::<ListEcu>();
+    new_parts_are_apart::<ListEcu>();
     Ok(())
 }

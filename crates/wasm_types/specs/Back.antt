@@ -1,10 +1,10 @@
 -- Flat code read back, from its last instruction to its first: the nested code of a flat body.
-use Rattle.std.specs.Prelude.{ℕ, List, [], ◌∷◌, Option, Some, None, map}
+use Rattle.std.specs.Prelude.{List, [], ◌∷◌, Some, None, map, ◌≡◌, refl}
 use Rattle.wasm_types.specs.declared.instr.Instr.{Instr}
 use Rattle.wasm_types.specs.declared.instr.Instr.TheVariants.{Block, Loop, If, Else, End}
 use Rattle.wasm_types.specs.declared.module.Func.{Func}
 use Rattle.wasm_types.specs.declared.module.Module.{Module}
-use Rattle.wasm_types.specs.Nested.{Code, Nil, Leaf, InBlock, InLoop, IfOnly, IfElse}
+use Rattle.wasm_types.specs.Nested.{Code, Nil, Leaf, InBlock, InLoop, IfOnly, IfElse, flat_body, sample}
 use Rattle.wasm_types.specs.Modules.{NestedFunc, NestedModule}
 
 -- the innermost list begins with one instruction more
@@ -22,29 +22,29 @@ abbrev pub with_three : (Code → Code → Code → Code) → List Code → List
 with_three f (first ∷ second ∷ rest ∷ lists) = f first second rest ∷ lists
 with_three f lists = []
 
--- an instruction before lists, the innermost of which comes first
-abbrev pub before : Instr → List Code → List Code
-before End lists = Nil ∷ lists
-before (Else e) lists = Nil ∷ lists
-before (Block r e) lists = with_two (InBlock r) lists
-before (Loop r e) lists = with_two (InLoop r) lists
-before (If r None e) lists = with_two (IfOnly r) lists
-before (If r (Some q) e) lists = with_three (IfElse r) lists
-before i lists = with_one (Leaf i) lists
+-- the lists from an instruction on, where these are the lists behind it; the innermost comes first
+abbrev pub lists_from : Instr → List Code → List Code
+lists_from End lists = Nil ∷ lists
+lists_from (Else e) lists = Nil ∷ lists
+lists_from (Block r e) lists = with_two (InBlock r) lists
+lists_from (Loop r e) lists = with_two (InLoop r) lists
+lists_from (If r None e) lists = with_two (IfOnly r) lists
+lists_from (If r (Some q) e) lists = with_three (IfElse r) lists
+lists_from i lists = with_one (Leaf i) lists
 
--- the rests of lists that flat code consists of, that of the innermost first
-abbrev pub rests_of : List Instr → List Code
-rests_of [] = []
-rests_of (i ∷ is) = before i (rests_of is)
+-- the lists that flat code goes through, each from here to its end; the innermost comes first
+abbrev pub lists_of : List Instr → List Code
+lists_of [] = []
+lists_of (i ∷ is) = lists_from i (lists_of is)
 
--- the outermost of the lists that were read, where there is one
+-- the first of these lists; of a whole body there is one alone
 abbrev pub first_code : List Code → Code
 first_code [] = Nil
 first_code (c ∷ lists) = c
 
 -- the nested code of a flat body
 unfoldable pub code_of : List Instr → Code
-code_of body = first_code (rests_of body)
+code_of body = first_code (lists_of body)
 
 abbrev pub nested_func : Func → NestedFunc
 nested_func f = record { ty = f.ty; locals = f.locals; code = code_of f.body }
@@ -62,3 +62,8 @@ nested_module m = record {
   elements = m.elements;
   datas = m.datas;
 }
+
+-- the sample is read back from its flat form
+code_of-sample : code_of (flat_body sample) ≡ sample
+unfolding code_of
+code_of-sample = refl
