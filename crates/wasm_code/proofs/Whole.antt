@@ -2,10 +2,10 @@
 use Rattle.module_specs.proofs.Readers.{Tells, fills_of, sized_tells}
 use Rattle.module_specs.specs.Spelling.{SpellsSized}
 use Rattle.module_specs.specs.Reading.{sized_at}
-use Rattle.std.proofs.Common.{◌≡◌, ℕ, zero, suc, ◌+◌, ◌-◌, ◌≤◌, false, List, [], ◌∷◌, ◌++◌, length, take, replicate, Result, Ok, Err, refl, sym, ap, subst, ◌∙◌, arith, length-append}
+use Rattle.std.proofs.Common.{◌≡◌, ℕ, zero, suc, ◌+◌, ◌-◌, ◌≤◌, false, List, [], ◌∷◌, ◌++◌, length, take, drop, replicate, Result, Ok, Err, refl, sym, ap, subst, ◌∙◌, arith, length-append}
 use Rattle.std.specs.Prelude.{nat_lt}
 use Rattle.std.proofs.lemmas.Bool.{ltb-false, le-ltb}
-use Rattle.std.proofs.lemmas.List.{length-replicate}
+use Rattle.std.proofs.lemmas.List.{append-nil, length-replicate}
 use Rattle.leb_bytes.proofs.Spelled.{IsBytes}
 use Rattle.leb_bytes.specs.Spelling.{SpellsUnsigned}
 use Rattle.wasm_types.specs.declared.instr.ValType.{ValType}
@@ -173,6 +173,20 @@ module _ (b : List ℕ) where
       let x = (sized ty at).here b fits at next f le e in
       let s = x.2 in
       (x.0, x.1, s.4.0, (s.0, s.1, s.2, s.3, s.4.1))
+
+whole_here : (text : List ℕ) → Here text 0 text (length text)
+whole_here text = record { whole = sym (ap (λ l. text ++ l) (nothing_left text) ∙ append-nil text); size = omega arith; within = omega arith }
+  where
+    nothing_left : (l : List ℕ) → drop (length l) l ≡ []
+    nothing_left [] = refl
+    nothing_left (x ∷ l) = nothing_left l
+
+-- a text is the body of one function
+pub one_function : (one two : NestedFunc) (text : List ℕ) → one.ty ≡ two.ty → SpellsBody one text → SpellsBody two text → one ≡ two
+one_function one two text same s t =
+    let first : body_at one.ty text 0 ≡ Ok (one, length text) = body_again text one 0 (length text) text s (whole_here text) in
+    let second : body_at two.ty text 0 ≡ Ok (two, length text) = body_again text two 0 (length text) text t (whole_here text) in
+    ap (λ (p : NestedFunc × ℕ). p.0) (ok_is (one, length text) (two, length text) (sym first ∙ ap (λ t. body_at t text 0) same ∙ second))
 
 -- ---- as the reader's contract says it
 

@@ -139,6 +139,9 @@ body_stays ty b at le =
     sized_fine InBody allows (λ end. Short (length b)) (Size at) (content_at ty at) b at le
     (λ stop past. allows.short (length b)) (tt, le) (λ r p more within small. content_lies r at p more ty within)
 
+pub fault_lies : (ty at : ℕ) (b : List ℕ) (e : Fault) → at ≤ length b → body_at ty b at ≡ Err e → InBody (length b) e
+fault_lies ty at b e le h = subst (Lies b at) h (body_stays ty b at le)
+
 -- as a returned fault
 pub is_of_code : (ty : ℕ) (b : List ℕ) (at : ℕ) (e : Fault) → at ≤ length b → Fails e (flat_read (body_at ty b at)) → IsOfCode e
 is_of_code ty b at e le h = by_fault e h

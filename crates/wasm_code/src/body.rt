@@ -19,12 +19,10 @@ use wasm_types::{Func, Instrs, ValType, ValTypes};
 const MOST_LOCALS: usize = 4096;
 
 fn push_copies(locals: &mut Vec<ValType>, count: u32, ty: ValType) -> Result<(), AllocError>
+    requires { length locals.old.items ≤ 4096 }
     ensures { OnOk result (locals.new.items ≡ locals.old.items ++ replicate count ty) }
 {
-    for _ in 0..count {
-        locals.push(ty)?;
-    }
-    Ok(())
+    locals.resize(locals.len() + count as usize, ty)
 }
 
 // One run, behind the locals so far.
@@ -61,6 +59,7 @@ fn read_runs(
     for _ in 0..count {
         place = read_run(&mut locals, body, bytes, place)?;
     }
+    locals.shrink_to_fit();
     Ok((locals, place))
 }
 

@@ -18,4 +18,4 @@ loop-preserved c = record {
 }
 
 pub returns-clause-is : goal.returns-clause-is
-returns-clause-is c = is_done c.args.body c.args.bytes.now c.loop.locals.items c.args.count c.loop.counter c.loop.place (runs_at c.args.body c.args.bytes.now 4096 c.args.count c.args.at) c.loop-test.false c.loop.invariant.is
+returns-clause-is c = rw c.shrink_to_fit.ensures.items (is_done c.args.body c.args.bytes.now c.loop.locals.items c.args.count c.loop.counter c.loop.place (runs_at c.args.body c.args.bytes.now 4096 c.args.count c.args.at) c.loop-test.false c.loop.invariant.is)
