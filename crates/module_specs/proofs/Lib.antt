@@ -4,3 +4,5 @@ pub mod Readers
 pub mod ValueTypes
 pub mod Loops
 pub mod Within
+pub mod Spellable
+pub mod SpellableParts

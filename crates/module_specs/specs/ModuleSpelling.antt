@@ -56,17 +56,14 @@ i32_constant z = record { ty = I32; value = cast_unsigned w32 z }
 abbrev pub i64_constant : ℤ → Constant
 i64_constant z = record { ty = I64; value = cast_unsigned w64 z }
 
--- i32.const or i64.const
-abbrev pub SpellsValue : Constant → List ℕ → Type 0
-SpellsValue c text = by_type c.ty
-  where
-    by_type : ValType → Type 0
-    by_type I32 = (z : ℤ) × (c ≡ i32_constant z) × Behind 0x41 (λ t. SpellsSigned 32 t z) text
-    by_type I64 = (z : ℤ) × (c ≡ i64_constant z) × Behind 0x42 (λ t. SpellsSigned 64 t z) text
+-- i32.const or i64.const, by its type
+abbrev pub SpellsValue : ValType → Constant → List ℕ → Type 0
+SpellsValue I32 c text = (z : ℤ) × (c ≡ i32_constant z) × Behind 0x41 (λ t. SpellsSigned 32 t z) text
+SpellsValue I64 c text = (z : ℤ) × (c ≡ i64_constant z) × Behind 0x42 (λ t. SpellsSigned 64 t z) text
 
 -- a constant and end (5.4.6)
 abbrev pub SpellsConstant : Constant → List ℕ → Type 0
-SpellsConstant c text = Then (SpellsValue c) (SpellsByte 0x0B) text
+SpellsConstant c text = Then (SpellsValue c.ty c) (SpellsByte 0x0B) text
 
 -- whether code may set it
 abbrev pub mutable_byte : Bool → ℕ
