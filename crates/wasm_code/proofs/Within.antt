@@ -18,7 +18,7 @@ use Rattle.module_specs.specs.CodeSpelling.{most_nested, most_locals}
 use Rattle.module_specs.specs.Reading.{Read, ◌>>=◌, refuse_if, Fails, byte_at, u32_at, s32_at, s64_at, zero_at, vector_at, type_at, block_type_at}
 use Rattle.module_specs.specs.CodeReading.{immediates_at, token_at, Part, First, Second, made, Open, after_else, act, code_from, code_at, runs_at, locals_at, content_at, body_at}
 use Rattle.module_specs.proofs.Within.{Allows, Fine, Stays, earlier, then, unless, byte_stays, u32_stays, s32_stays, s64_stays, zero_then, type_stays, block_type_stays, vector_stays, sized_fine}
-use Rattle.wasm_code.specs.Faults.{IsOfCode, InBody}
+use Rattle.wasm_code.specs.Faults.{IsOfCode, HasError, InBody}
 use Rattle.wasm_code.specs.Flat.{flat_read}
 
 allows : Allows InBody
@@ -142,14 +142,14 @@ body_stays ty b at le =
 pub fault_lies : (ty at : ℕ) (b : List ℕ) (e : Fault) → at ≤ length b → body_at ty b at ≡ Err e → InBody (length b) e
 fault_lies ty at b e le h = subst (Lies b at) h (body_stays ty b at le)
 
--- as a returned fault
-pub is_of_code : (ty : ℕ) (b : List ℕ) (at : ℕ) (e : Fault) → at ≤ length b → Fails e (flat_read (body_at ty b at)) → IsOfCode e
-is_of_code ty b at e le h = by_fault e h
+-- a returned fault has an error that names it
+pub has_error : (ty : ℕ) (b : List ℕ) (at : ℕ) (e : Fault) → at ≤ length b → Fails e (flat_read (body_at ty b at)) → HasError e
+has_error ty b at e le h = by_fault e h
   where
     by_read : (e : Fault) (r : Read NestedFunc) → Lies b at r → flat_read r ≡ Err e → IsOfCode e
     by_read e (Ok x) f h = absurd cc
     by_read e (Err d) f h = let same : d ≡ e = cc in subst IsOfCode same f.0
 
-    by_fault : (e : Fault) → Fails e (flat_read (body_at ty b at)) → IsOfCode e
+    by_fault : (e : Fault) → Fails e (flat_read (body_at ty b at)) → HasError e
     by_fault Memory h = tt
     by_fault e h = by_read e (body_at ty b at) (body_stays ty b at le) h

@@ -23,7 +23,7 @@ abbrev pub with_fault : {A : Type 0} → Result A CodeError → Result A Fault
 with_fault (Ok x) = Ok x
 with_fault (Err e) = Err (fault_of e)
 
--- a fault that code or a body can have; or want of memory
+-- a fault that code or a body can have
 abbrev pub IsOfCode : Fault → Type 0
 IsOfCode (fault.Magic at) = ⊥
 IsOfCode (fault.Version at) = ⊥
@@ -32,7 +32,13 @@ IsOfCode (fault.Order at) = ⊥
 IsOfCode (fault.Import at) = ⊥
 IsOfCode (fault.Utf8 at) = ⊥
 IsOfCode (fault.Count at) = ⊥
+IsOfCode fault.Memory = ⊥
 IsOfCode other = Unit {0}
+
+-- the same, or want of memory
+abbrev pub HasError : Fault → Type 0
+HasError fault.Memory = Unit {0}
+HasError e = IsOfCode e
 
 -- the faults that a body may have in a region with this end: one of these, in the region or at its end
 abbrev pub InBody : ℕ → Fault → Type 0

@@ -5,7 +5,7 @@ ghost use Rattle.module_specs.specs.Spelling.{Here};
 ghost use Rattle.module_specs.specs.CodeSpelling.{SpellsBody};
 ghost use Rattle.module_specs.specs.Reading.{Gives, u32_at, type_at, sized_at};
 ghost use Rattle.module_specs.specs.CodeReading.{runs_at, locals_at, content_at, body_at};
-ghost use Rattle.wasm_code.specs.Faults.{IsOfCode, with_fault};
+ghost use Rattle.wasm_code.specs.Faults.{with_fault};
 ghost use Rattle.wasm_code.specs.Flat.{flat_read};
 ghost use Rattle.wasm_code.specs.Runs.{run_at};
 

@@ -1,6 +1,6 @@
 //! Why bytes are no body.
 ghost use Rattle.std.specs.Prelude.{◌≡◌};
-ghost use Rattle.wasm_code.specs.Faults.{fault_of, IsOfCode};
+ghost use Rattle.wasm_code.specs.Faults.{fault_of, HasError};
 
 use module_specs::Fault;
 
@@ -30,7 +30,7 @@ pub enum CodeError {
 
 // A fault of a body as the error that names it.
 pub fn code_error(fault: Fault) -> CodeError
-    requires { IsOfCode fault }
+    requires { HasError fault }
     ensures { fault_of result ≡ fault }
 {
     match fault {
