@@ -6,3 +6,5 @@ pub mod Loops
 pub mod Within
 pub mod Spellable
 pub mod SpellableParts
+pub mod Items
+pub mod Segments
