@@ -8,3 +8,5 @@ pub mod Spellable
 pub mod SpellableParts
 pub mod Items
 pub mod Segments
+pub mod Sections
+pub mod Modules
