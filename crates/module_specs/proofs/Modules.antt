@@ -19,7 +19,7 @@ use Rattle.module_specs.proofs.Sections.{BodiesTell, sections_again, sections_he
 header_off : (b rest : List ℕ) → b ≡ magic ++ (version ++ rest) → drop 8 b ≡ rest
 header_off b rest e = ap (drop 8) e
 
-same_bytes : (b : List ℕ) (at : ℕ) (these : List ℕ) → differs b at these ≡ false → take 4 (drop at b) ≡ these
+pub same_bytes : (b : List ℕ) (at : ℕ) (these : List ℕ) → differs b at these ≡ false → take 4 (drop at b) ≡ these
 same_bytes b at these e = (bytes_eq-Decides (take 4 (drop at b)) these).0 (not_not (bytes_eq (take 4 (drop at b)) these) e)
 
 header_whole : (b : List ℕ) → take 4 (drop 0 b) ≡ magic → take 4 (drop 4 b) ≡ version → b ≡ magic ++ (version ++ drop 8 b)
