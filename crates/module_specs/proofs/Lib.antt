@@ -11,3 +11,4 @@ pub mod Segments
 pub mod Sections
 pub mod Modules
 pub mod FileFaults
+pub mod Cuts

@@ -33,7 +33,7 @@ nothing_left [] = refl
 nothing_left (x ∷ l) = nothing_left l
 
 module _ (tell : BodiesTell) where
-  abbrev counted : List ℕ → List Section × ℕ → Result NestedModule Fault
+  abbrev pub counted : List ℕ → List Section × ℕ → Result NestedModule Fault
   counted b xs = refuse_if (lacks_bodies xs.0) (fault.Count (length b)) >>= λ fine. Ok (module_of xs.0)
 
   rest_again : (b : List ℕ) (at : ℕ) (m : NestedModule) (text : List ℕ) → SpellsRest m text → Here b at text (length b) → rest_at b at ≡ Ok m

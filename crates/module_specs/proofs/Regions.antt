@@ -12,7 +12,7 @@ take_fits n bytes h i =
       | inr le ↦ rw (get_or_past (take n bytes) i 0 (omega (arith, length-take n bytes))) (omega arith)
     ]
 
-take_behind : (text l : List ℕ) (m : ℕ) → take (length text + m) (text ++ l) ≡ text ++ take m l
+pub take_behind : (text l : List ℕ) (m : ℕ) → take (length text + m) (text ++ l) ≡ text ++ take m l
 take_behind [] l m = ap (λ n. take n l) (let e : 0 + m ≡ m = omega arith in e)
 take_behind (x ∷ text) l m = let e : length (x ∷ text) + m ≡ suc (length text + m) = omega arith in ap (λ n. take n (x ∷ (text ++ l))) e ∙ ap (λ l. x ∷ l) (take_behind text l m)
 

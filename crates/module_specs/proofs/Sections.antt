@@ -265,7 +265,7 @@ module _ (tell : BodiesTell) where
   abbrev id_then : Before → List ℕ → ℕ → ℕ × ℕ → Read Section
   id_then s b at id = known at (kind_of_id id.0) >>= risen s b at id.1
 
-  section_again : (s : Before) (b : List ℕ) (at next : ℕ) (x : Section) (text : List ℕ) → SpellsSection s x text → Here b at text next → section_at s b at ≡ Ok (x, next)
+  pub section_again : (s : Before) (b : List ℕ) (at next : ℕ) (x : Section) (text : List ℕ) → SpellsSection s x text → Here b at text next → section_at s b at ≡ Ok (x, next)
   unfolding section_at
   section_again s b at next x text t h =
       let k = kind_of x in
@@ -277,7 +277,7 @@ module _ (tell : BodiesTell) where
       ∙ goes_past (falls s.last k) (fault.Order at) (λ rising. sized_at (λ end. fault.Short end) (fault.Size at) (section_content_at s at k) b (at + 1)) (rises_again s.last k t.0)
       ∙ (sized s at k).again b (at + 1) next x r.0 (z.0, z.1, z.2, z.3, (refl, z.4)) (byte_rest b at next (id_byte k) r.0 whole)
 
-  section_here : (s : Before) (b : List ℕ) → IsBytes b → (at next : ℕ) (x : Section) → section_at s b at ≡ Ok (x, next)
+  pub section_here : (s : Before) (b : List ℕ) → IsBytes b → (at next : ℕ) (x : Section) → section_at s b at ≡ Ok (x, next)
       → (text : List ℕ) × Here b at text next × (at < next) × SpellsSection s x text
   unfolding section_at
   section_here s b fits at next x e =
@@ -297,10 +297,10 @@ module _ (tell : BodiesTell) where
         (rises, (h1.0, ap (λ i. i ∷ h1.0) is_id, (z.0, z.1, z.2, z.3, z.4.1))),
       )
 
-  abbrev sections_then : ℕ → Before → List ℕ → Section × ℕ → Read (List Section)
+  abbrev pub sections_then : ℕ → Before → List ℕ → Section × ℕ → Read (List Section)
   sections_then n s b x = sections_at n (after x.0 s) b x.1 >>= with_section x.0
 
-  abbrev more_or_end : Bool → ℕ → Before → List ℕ → ℕ → Read (List Section)
+  abbrev pub more_or_end : Bool → ℕ → Before → List ℕ → ℕ → Read (List Section)
   more_or_end t n s b at = cond t (section_at s b at >>= sections_then n s b) (Ok (none at))
     where
       none : ℕ → List Section × ℕ

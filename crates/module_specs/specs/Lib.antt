@@ -7,4 +7,5 @@ pub mod Reading
 pub mod CodeReading
 pub mod ModuleReading
 pub mod Faults
+pub mod Fronts
 pub mod Worked
