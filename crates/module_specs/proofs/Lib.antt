@@ -1,0 +1,14 @@
+pub mod Places
+pub mod Regions
+pub mod Readers
+pub mod ValueTypes
+pub mod Loops
+pub mod Within
+pub mod Spellable
+pub mod SpellableParts
+pub mod Items
+pub mod Segments
+pub mod Sections
+pub mod Modules
+pub mod FileFaults
+pub mod Cuts
