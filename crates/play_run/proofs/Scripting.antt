@@ -4,12 +4,12 @@ use Rattle.std.specs.Prelude.{option_map, is_some}
 use Rattle.std.specs.List.{range_with_len}
 use Rattle.std.proofs.lemmas.List.{length-map}
 use Rattle.std.proofs.lemmas.List.Elements.{All-weaker}
-use Rattle.bus_specs.specs.Sound.{IsSetup, Rise}
+use Rattle.bus_specs.specs.Sound.{IsKind, Rise}
 use Rattle.play_specs.specs.Scenario.{Action}
 use Rattle.play_specs.specs.Play as play
 use Rattle.play_specs.specs.Play.{Play, IsPlay, PlayAction, action_of, bit_time}
 use Rattle.play_specs.proofs.Scenarios.{setup_of-IsSetup, nodes_of-Rise, IsPossible, actions-IsPossible}
-use Rattle.bus_medium.specs.Setups.{setup_of, IsWellFormed}
+use Rattle.bus_medium.specs.Setups.{IsWellFormed}
 use Rattle.bus_medium.specs.declared.setup.BusSetup.{BusSetup}
 use Rattle.play_run.specs.Ready.{Rises}
 use Rattle.play_run.specs.Scripts.{IsOfNodes, IsRunnable, scenario_of}
@@ -25,15 +25,17 @@ same-some f (Some n) = refl
 
 pub runnable : (p : Play) (s : Script) → IsPlay p → length p.actions < 2 ^ 63 → scenario_of s ≡ play.scenario_of p → s.nodes ≡ p.nodes → IsRunnable s
 runnable p s is few same count =
-    let setup : setup_of s.setup ≡ play.setup_of p = ap (λ x. x.setup) same in
+    let errors : s.setup.errors ≡ p.errors = ap (λ x. x.setup.errors) same in
+    let fast : s.setup.fast ≡ option_map (bit_time p.resolution) p.fd_rate = ap (λ x. x.setup.data_bit_time) same in
+    let fd_rate : s.setup.fd_rate ≡ p.fd_rate = ap (λ x. x.setup.fd_rate) same in
     let members : s.setup.members ≡ play.nodes_of p = ap (λ x. x.nodes) same in
     let stop : s.stop ≡ p.stop = ap (λ x. x.stop) same in
     let actions : s.actions.items ≡ map action_of p.actions = ap (λ x. x.actions) same in
     record {
       setup = record {
         rise = (0 + p.nodes, rw members (nodes_of-Rise p));
-        errors = rw setup (setup_of-IsSetup p is);
-        rates = rw setup (same-some (bit_time p.resolution) p.fd_rate);
+        errors = subst (λ es. All (λ e. IsKind e.kind 4) es) (sym errors) (setup_of-IsSetup p is);
+        rates = ap is_some fast ∙ same-some (bit_time p.resolution) p.fd_rate ∙ sym (ap is_some fd_rate);
       };
       nodes = rw (members, count) refl;
       stop = rw stop is.stop;

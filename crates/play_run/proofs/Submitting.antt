@@ -118,6 +118,12 @@ range-more a (suc n) =
     let m : a + suc n ≡ (a + 1) + n = omega arith in
     rw (k, m) (ap (λ l. a ∷ l) (range-more (a + 1) n))
 
+-- one more number
+pub numbers-step : (items pushed : List ℕ) (n : ℕ) → pushed ≡ items ++ n ∷ [] → items ≡ range_with_len 0 n → pushed ≡ range_with_len 0 (n + 1)
+numbers-step items pushed n e so_far =
+    let z : 0 + n ≡ n = omega arith in
+    e ∙ ap (λ l. l ++ n ∷ []) so_far ∙ ap (λ k. range_with_len 0 n ++ k ∷ []) (sym z) ∙ sym (range-more 0 n)
+
 -- one more node enters
 pub enter-step : (start b new : Bus) (node : ℕ) → new ≡ enter b node → b ≡ fold enter start (range_with_len 0 node)
     → new ≡ fold enter start (range_with_len 0 (node + 1))

@@ -5,13 +5,6 @@ use Rattle.std.proofs.lemmas.List.FromFn.{length-range_with_len, get_or-range_wi
 use Rattle.play_run.proofs.Submitting.{all-members, enter-step, zero-plus}
 use Rattle.play_run.proofs.playing.enter_all.Goals as goal
 
-pub enter-requires-clause-member : goal.enter-requires-clause-member
-enter-requires-clause-member c =
-    let n = c.loop-node.node in
-    let at = get_or-range_with_len 0 c.args.nodes n 0 c.loop-node-test.true in
-    ap (member_is (λ m. true) c.loop-node.medium.members) (sym (at ∙ zero-plus n))
-    ∙ c.loop-node.invariant.members n 0 (rw (length-range_with_len 0 c.args.nodes) c.loop-node-test.true)
-
 pub loop-node-preserved : goal.loop-node-preserved
 loop-node-preserved c = record {
   members = rw c.enter.ensures (all-members c.loop-node.medium c.loop-node.node (range_with_len 0 c.args.nodes) c.loop-node.invariant.members);
