@@ -24,9 +24,6 @@ use Rattle.bus_log.proofs.Texts.{hex_of_bytes}
 pub word_is : (text word : List ℕ) → bytes_eq text word ≡ true → text ≡ word
 word_is text word same = (bytes_eq-Decides text word).0 same
 
-pub word_itself : (word : List ℕ) → bytes_eq word word ≡ true
-word_itself word = (bytes_eq-Decides word word).1 refl
-
 other_word : (text word : List ℕ) → (text ≡ word → ⊥) → bytes_eq text word ≡ false
 other_word text word other = false_from_ne_true (bytes_eq text word) (λ same. other (word_is text word same))
 

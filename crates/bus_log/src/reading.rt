@@ -12,7 +12,9 @@ use crate::told::{Place, told_line};
 use crate::verb::{cause_named, is_word, verb_named};
 use std::alloc::{AllocError, Global};
 
-/// The line that these bytes are the text of, with its line feed; None exactly where they are the text of none.
+/// The line whose text these bytes are, with its line feed; None exactly where they are the text of none.
+/// Such a line has up to 64 bytes, a kind of error from 1 to 5 (a listener's: from 1 to 4), receivers
+/// that rise, and the status 0 or 8.
 pub fn read_line(alloc: Global, bytes: &[u8]) -> Result<Option<Line>, AllocError>
     // The bytes are the text of what is read.
     ensures found { IfOk result (λ o. IfSome o (λ line. Spells bytes.now (line_of line))) }
