@@ -54,4 +54,4 @@ deed_of budget file judgement = record {
 pub record IsPlayDeed (limit budget : ℕ) (file : List ℕ) (held : Contents) (deed : Deed) : Type 0 where
   pub judged : Result Play Refusal
   pub by : Judgement limit (held file) judged
-  pub deed : deed ≡ deed_of budget file judged
+  pub done : deed ≡ deed_of budget file judged
