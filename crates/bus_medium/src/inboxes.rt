@@ -5,10 +5,9 @@ ghost use Rattle.log_specs.specs.Line.{On};
 ghost use Rattle.bus_specs.specs.Bus.{member_is};
 ghost use Rattle.bus_specs.specs.Inbox as model;
 
-use crate::Medium;
 use crate::lookup::place_of;
-use crate::member_changes;
 use crate::request::Request;
+use crate::{Medium, member_changes};
 use bus_log::LineList;
 use can_frame::Bytes;
 use std::alloc::{AllocError, Global};

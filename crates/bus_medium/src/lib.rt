@@ -3,25 +3,24 @@
 #![tactic(auto)]
 
 mod course;
-mod inboxes;
 mod due;
 mod finishing;
+mod inboxes;
 mod lookup;
 mod mail;
 mod medium;
 mod member;
+mod member_changes;
+mod member_inbox;
 mod offers;
 mod part;
 mod request;
 mod running;
 mod setup;
 mod starting;
-mod member_changes;
-mod member_inbox;
 mod submission;
 mod submitting;
 
 pub use due::{Due, What};
 pub use medium::Medium;
 pub use setup::BusSetup;
-

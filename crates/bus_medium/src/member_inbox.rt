@@ -249,7 +249,11 @@ fn later_format(notice: Option<FormatNotice>, now: u64) -> Option<FormatNotice>
     ensures { result ≡ later_part (λ n. n.due) now notice }
 {
     let notice = notice?;
-    if notice.due <= now { None } else { Some(notice) }
+    if notice.due <= now {
+        None
+    } else {
+        Some(notice)
+    }
 }
 
 /// What isn't due yet.

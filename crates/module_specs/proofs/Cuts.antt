@@ -129,9 +129,9 @@ module _ (tell : BodiesTell) where
       let here : Here c 8 begins.text at = shared b c stop in_b in_c same 8 at begins.text (omega arith) begins.here in
       let header : Here c 0 (magic ++ version) 8 = shared b c stop in_b in_c same 0 8 (magic ++ version) (omega (arith, begins.here.size)) begins.header in
       let section : section_at s c at ≡ Err e =
-        section_is s c at stop states_c in_c
-        ∙ ap (λ r. known at (kind_of_id states.id) >>= content_then s r at states.id states.next stop) same
-        ∙ sym (section_is s b at stop states in_b) ∙ f in
+      section_is s c at stop states_c in_c
+      ∙ ap (λ r. known at (kind_of_id states.id) >>= content_then s r at states.id states.next stop) same
+      ∙ sym (section_is s b at stop states in_b) ∙ f in
       behind_header c small header
       ∙ ap (λ r. r >>= counted tell c) (leads_to_fault c e at (omega (arith, c0.within)) xs (length c) start 8 begins.text (omega arith) begins.spelled here section)
 
@@ -145,9 +145,9 @@ module _ (tell : BodiesTell) where
       let header = narrow b n inside 0 8 (magic ++ version) (omega (arith, begins.here.size)) begins.header in
       let here = subst (Here front 8 begins.text) (sym size) (narrow b n inside 8 n begins.text (omega arith) begins.here) in
       let read : module_read front ≡ counted tell front (xs, length front) =
-        behind_header front (omega (arith, size)) header
-        ∙ ap (λ r. r >>= counted tell front) (sections_again tell (length front) start front xs 8 begins.text (omega arith) begins.spelled here) in
-      by_count front size read (lacks_bodies xs)  refl
+      behind_header front (omega (arith, size)) header
+      ∙ ap (λ r. r >>= counted tell front) (sections_again tell (length front) start front xs 8 begins.text (omega arith) begins.spelled here) in
+      by_count front size read (lacks_bodies xs) refl
     where
       by_count : (front : List ℕ) → length front ≡ n → module_read front ≡ counted tell front (xs, length front) → (t : Bool) → lacks_bodies xs ≡ t
           → (module_read front ≡ Ok (module_of xs)) ⊎ (module_read front ≡ Err (fault.Count n))

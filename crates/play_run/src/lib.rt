@@ -15,5 +15,3 @@ mod writing;
 pub use emission::Emission;
 pub use ending::{Ending, RunError};
 pub use play::run;
-
-

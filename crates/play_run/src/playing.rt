@@ -111,7 +111,12 @@ fn live_bus(alloc: Global, setup: BusSetup, nodes: u32) -> Result<Medium, AllocE
 /// write. `Unwritten` comes only where a write failed: the lines before that one stand there, of its
 /// own line a first part, and nothing behind it. `Memory` comes only where no write failed, and then
 /// whole lines stand there.
-pub(crate) fn run_script<O: Sink>(alloc: Global, budget: u64, script: Script, out: &mut O) -> Result<Ending, RunError>
+pub(crate) fn run_script<O: Sink>(
+    alloc: Global,
+    budget: u64,
+    script: Script,
+    out: &mut O,
+) -> Result<Ending, RunError>
     requires runnable { IsRunnable script }
     requires budget { budget < 2 ^ 62 }
     ensures log { OnOk result
@@ -128,5 +133,11 @@ pub(crate) fn run_script<O: Sink>(alloc: Global, budget: u64, script: Script, ou
 {
     let stop = script.stop;
     let medium = live_bus(alloc, script.setup, script.nodes)?;
-    run_on(alloc, stop, budget, Runner::new(medium, script.actions), out)
+    run_on(
+        alloc,
+        stop,
+        budget,
+        Runner::new(medium, script.actions),
+        out,
+    )
 }

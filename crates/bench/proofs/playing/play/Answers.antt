@@ -17,52 +17,58 @@ returns-in-Ok-clause-carried g c held h =
     let bytes = c.deref.result.now in
     let same : bytes ≡ held c.args.file.now = c.deref.ensures.value ∙ c.in-Ok.ensures.bytes held h in
     let read : length c.in-Ok.bytes.items ≤ file_limit = c.in-Ok.ensures.within in
-    let within : length bytes ≤ file_limit = subst (λ (l : List ℕ). length l ≤ file_limit) (sym c.deref.ensures.value) read in
-    (deed_of event_budget c.args.file.now (placed (walk bytes)),
-    done_as file_limit event_budget c.args.file.now held (placed (walk bytes)) (read_as file_limit (held c.args.file.now) bytes same within),
-    record {
-      answer = c.play_bytes.ensures.answer (walk bytes) (walk_exact bytes);
-      whole = c.play_bytes.ensures.whole (walk bytes) (walk_exact bytes);
-      broken = c.play_bytes.ensures.broken (walk bytes) (walk_exact bytes);
-      stopped = c.play_bytes.ensures.stopped (walk bytes) (walk_exact bytes);
-      named = λ id e. absurd (c.play_bytes.ensures.read id e);
-    })
+    let within : length bytes ≤ file_limit = subst (λ (l : List ℕ). length l ≤ file_limit) (sym c.deref.ensures.value) read in (
+      deed_of event_budget c.args.file.now (placed (walk bytes)),
+      done_as file_limit event_budget c.args.file.now held (placed (walk bytes)) (read_as file_limit (held c.args.file.now) bytes same within),
+      record {
+        answer = c.play_bytes.ensures.answer (walk bytes) (walk_exact bytes);
+        whole = c.play_bytes.ensures.whole (walk bytes) (walk_exact bytes);
+        broken = c.play_bytes.ensures.broken (walk bytes) (walk_exact bytes);
+        stopped = c.play_bytes.ensures.stopped (walk bytes) (walk_exact bytes);
+        named = λ id e. absurd (c.play_bytes.ensures.read id e);
+      },
+    )
 
 pub returns-in-Err-Unread-clause-carried : goal.returns-in-Err-Unread-clause-carried
 returns-in-Err-Unread-clause-carried g c held h =
-    let j = judged_of file_limit (held c.args.file.now) in
-    (deed_of event_budget c.args.file.now j.0, done_as file_limit event_budget c.args.file.now held j.0 j.1,
-    record {
-      answer = inl tt;
-      whole = inl tt;
-      broken = λ e. absurd cc;
-      stopped = λ e. absurd cc;
-      named = λ file e.
-          let same : Main ≡ file = cc in
-          let blamed = c.fetch.ensures.named (c.in-Err-Unread.is ∙ ap (λ x. Err x) c.in-Err-Unread.field-0-is) in
-          (0, omega arith, ap (λ x. (x, c.args.file.now)) same ∙ ap (λ n. (file, n)) (sym blamed));
-    })
+    let j = judged_of file_limit (held c.args.file.now) in (
+      deed_of event_budget c.args.file.now j.0,
+      done_as file_limit event_budget c.args.file.now held j.0 j.1,
+      record {
+        answer = inl tt;
+        whole = inl tt;
+        broken = λ e. absurd cc;
+        stopped = λ e. absurd cc;
+        named = λ file e.
+            let same : Main ≡ file = cc in
+            let blamed = c.fetch.ensures.named (c.in-Err-Unread.is ∙ ap (λ x. Err x) c.in-Err-Unread.field-0-is) in
+            (0, omega arith, ap (λ x. (x, c.args.file.now)) same ∙ ap (λ n. (file, n)) (sym blamed));
+      },
+    )
 
 pub returns-in-Err-Size-clause-carried : goal.returns-in-Err-Size-clause-carried
-returns-in-Err-Size-clause-carried g c held h =
-    (deed_of event_budget c.args.file.now (Err (main_refusal Size file_limit)),
-    done_as file_limit event_budget c.args.file.now held (Err (main_refusal Size file_limit)) (TooLong (c.fetch.ensures.size (c.in-Err-Size.is ∙ ap (λ x. Err x) c.in-Err-Size.field-0-is) held h)),
-    record {
-      answer = inr c.refused.ensures;
-      whole = inr (writes_nothing g.O.Sink c.args.out.now);
-      broken = λ e. let wrong : Refused (main_refusal Size file_limit) ≡ Unwritten = sym c.refused.ensures ∙ e in absurd cc;
-      stopped = λ e. let wrong : Refused (main_refusal Size file_limit) ≡ Memory = sym c.refused.ensures ∙ e in absurd cc;
-      named = λ file e. let wrong : Refused (main_refusal Size file_limit) ≡ Unread file = sym c.refused.ensures ∙ e in absurd cc;
-    })
+returns-in-Err-Size-clause-carried g c held h = (
+  deed_of event_budget c.args.file.now (Err (main_refusal Size file_limit)),
+  done_as file_limit event_budget c.args.file.now held (Err (main_refusal Size file_limit)) (TooLong (c.fetch.ensures.size (c.in-Err-Size.is ∙ ap (λ x. Err x) c.in-Err-Size.field-0-is) held h)),
+  record {
+    answer = inr c.refused.ensures;
+    whole = inr (writes_nothing g.O.Sink c.args.out.now);
+    broken = λ e. let wrong : Refused (main_refusal Size file_limit) ≡ Unwritten = sym c.refused.ensures ∙ e in absurd cc;
+    stopped = λ e. let wrong : Refused (main_refusal Size file_limit) ≡ Memory = sym c.refused.ensures ∙ e in absurd cc;
+    named = λ file e. let wrong : Refused (main_refusal Size file_limit) ≡ Unread file = sym c.refused.ensures ∙ e in absurd cc;
+  },
+)
 
 pub returns-in-Err-Memory-clause-carried : goal.returns-in-Err-Memory-clause-carried
 returns-in-Err-Memory-clause-carried g c held h =
-    let j = judged_of file_limit (held c.args.file.now) in
-    (deed_of event_budget c.args.file.now j.0, done_as file_limit event_budget c.args.file.now held j.0 j.1,
-    record {
-      answer = inl tt;
-      whole = inl tt;
-      broken = λ e. absurd cc;
-      stopped = λ e. stops_untouched g.O.Sink c.args.out.now (lines_of event_budget j.0);
-      named = λ id e. absurd cc;
-    })
+    let j = judged_of file_limit (held c.args.file.now) in (
+      deed_of event_budget c.args.file.now j.0,
+      done_as file_limit event_budget c.args.file.now held j.0 j.1,
+      record {
+        answer = inl tt;
+        whole = inl tt;
+        broken = λ e. absurd cc;
+        stopped = λ e. stops_untouched g.O.Sink c.args.out.now (lines_of event_budget j.0);
+        named = λ id e. absurd cc;
+      },
+    )

@@ -14,4 +14,4 @@ returns c =
     let m = c.index.result.now in
     c.of-2.ensures ∙ c.in_ok-write_items.ensures ∙ ap (λ xs. xs ++ flat_map spell (items_of c.args.now m)) c.new-bytes.ensures.items
     ∙ sym (inbox-found c.args.self.now c.deref.result.now c.self.inside.members.items c.args.now c.args.node c.in-Some.place m
-        c.deref.ensures.value (ap (λ v. v.members) c.self.view_is) c.self.invariant.sound.nodes c.in-Some.ensures.place c.index.ensures c.in-Some.ensures.node)
+    c.deref.ensures.value (ap (λ v. v.members) c.self.view_is) c.self.invariant.sound.nodes c.in-Some.ensures.place c.index.ensures c.in-Some.ensures.node)
