@@ -1,7 +1,7 @@
 -- What is wrong in one thing breaks a law.
-use Rattle.std.proofs.Common.{◌≡◌, ◌-◌, arith, true, false, List, [], ◌∷◌, ◌++◌, replicate}
-use Rattle.frame_specs.specs.Frame.{Frame, Data}
-use Rattle.frame_specs.specs.Wire.{wire_bits, time_of, duration, stuffed, stuff, stuff_open}
+use Rattle.std.proofs.Common.{◌-◌, arith, true, false, [], ◌∷◌, ◌++◌, replicate}
+use Rattle.frame_specs.specs.Frame.{Data}
+use Rattle.frame_specs.specs.Wire.{wire_bits, time_of, duration, stuffed, stuff}
 use Rattle.frame_laws.specs.Unstuffing.{IsUndone}
 use Rattle.frame_laws.specs.Checksum.{LeavesNothing}
 use Rattle.frame_laws.specs.Times.{IsEnd}

@@ -1,11 +1,11 @@
 -- The times of all bits of a frame.
-use Rattle.std.proofs.Common.{◌≡◌, ◌≤◌, ◌+◌, ◌-◌, ℕ, true, false, Bool, List, [], ◌∷◌, ◌++◌, ◌⊎◌, inl, inr, fold, length, take, replicate, sum, refl, sym, ap, subst, ◌∙◌, append_assoc, arith}
+use Rattle.std.proofs.Common.{◌≡◌, ◌≤◌, ◌+◌, ◌-◌, ℕ, true, false, Bool, List, [], ◌∷◌, ◌++◌, inl, inr, fold, length, replicate, sum, refl, ap, ◌∙◌, append_assoc, arith}
 use Rattle.std.proofs.lemmas.Bool.Decides.{eqb_tells}
 use Rattle.std.proofs.lemmas.List.{length-append, length-replicate, length-reverse, take_all}
 use Rattle.std.proofs.lemmas.List.Sums.{fold-append}
 use Rattle.frame_specs.specs.Bits.{number_bits, bytes_bits}
 use Rattle.frame_specs.specs.Frame.{Frame, Kind, Data, Remote, Fd}
-use Rattle.frame_specs.specs.Wire.{run, settle, put, stuff_open, head, raw, error_state, dlc, stuffed, stuffed_as, field_bits, body_bits, tail_bits, wire_bits, spread, body_times, times, time_of, duration}
+use Rattle.frame_specs.specs.Wire.{run, settle, put, stuff_open, head, raw, error_state, dlc, stuffed, stuffed_as, body_bits, tail_bits, wire_bits, spread, body_times, times, time_of, duration}
 use Rattle.frame_laws.specs.Times.{IsEnd}
 
 -- ---- no bit is lost where more are stuffed

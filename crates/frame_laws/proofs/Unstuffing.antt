@@ -1,9 +1,8 @@
 -- What is left of bits that were stuffed.
-use Rattle.std.proofs.Common.{◌≡◌, ◌≢◌, ◌+◌, ◌==◌, ℕ, Bool, true, false, not, List, [], ◌∷◌, ◌++◌, ◌⊎◌, inl, inr, fold, reverse, if◌then◌else◌, refl, sym, ap, subst, ◌∙◌, append_assoc}
+use Rattle.std.proofs.Common.{◌≡◌, ◌+◌, ◌==◌, Bool, true, false, not, List, [], ◌∷◌, ◌++◌, inl, inr, fold, reverse, if◌then◌else◌, refl, sym, ap, subst, ◌∙◌, append_assoc}
 use Rattle.std.specs.Bool.{beq}
 use Rattle.std.proofs.lemmas.Bool.Decides.{eqb_tells}
 use Rattle.std.proofs.lemmas.List.{append-nil, reverse-append}
-use Rattle.frame_specs.specs.Bits.{number_bits}
 use Rattle.frame_specs.specs.Frame.{Frame, Kind, Data, Remote, Fd}
 use Rattle.frame_specs.specs.Wire.{run, front, settle, put, stuff, stuff_open, raw, stuffed, stuffed_as}
 use Rattle.frame_laws.specs.Unstuffing.{unstuffed_behind, unstuffed, IsUndone}

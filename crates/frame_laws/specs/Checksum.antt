@@ -1,5 +1,5 @@
 -- Bits with the CRC sequence of a classical frame behind them (ISO 11898-1, CRC sequence).
-use Rattle.std.specs.Prelude.{◌≡◌, refl, ℕ, Bool, true, List, [], ◌∷◌, ◌++◌}
+use Rattle.std.specs.Prelude.{◌≡◌, refl, Bool, true, List, [], ◌∷◌, ◌++◌}
 use Rattle.frame_specs.specs.Bits.{number_bits}
 use Rattle.frame_specs.specs.Frame.{Kind, Data, Remote, Fd}
 use Rattle.frame_specs.specs.Wire.{crc}

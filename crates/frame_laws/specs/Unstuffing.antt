@@ -4,7 +4,7 @@ use Rattle.std.specs.Bool.{beq}
 use Rattle.frame_specs.specs.Bits.{recessive}
 
 -- What is left of bits that stand behind so many equal bits of a level: behind five the next one is a
--- stuff bit, which is dropped, and begins a run of one.
+-- stuff bit, which is dropped, whichever it is, and begins a run of one.
 abbrev pub unstuffed_behind : Bool → ℕ → List Bool → List Bool
 unstuffed_behind level count [] = []
 unstuffed_behind level count (b ∷ bits) =

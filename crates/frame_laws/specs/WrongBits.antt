@@ -1,5 +1,5 @@
 -- Stuffings and CRC fields that are wrong in one thing.
-use Rattle.std.specs.Prelude.{ℕ, ◌+◌, ◌==◌, Bool, not, List, [], ◌∷◌, reverse, fold, if◌then◌else◌}
+use Rattle.std.specs.Prelude.{◌≡◌, refl, ℕ, ◌+◌, ◌==◌, Bool, true, false, not, List, [], ◌∷◌, ◌++◌, replicate, reverse, fold, if◌then◌else◌}
 use Rattle.std.specs.Bool.{beq}
 use Rattle.frame_specs.specs.Bits.{number_bits, recessive}
 use Rattle.frame_specs.specs.Wire.{crc, run, front}
@@ -13,6 +13,10 @@ stuff_behind level count (b ∷ bits) =
 
 abbrev pub stuff_uncounted : List Bool → List Bool
 stuff_uncounted bits = stuff_behind recessive 0 bits
+
+-- so the next one comes behind six ones, the first of them a stuff bit
+pub six_ones : stuff_uncounted (replicate 5 false ++ replicate 5 true) ≡ replicate 5 false ++ true ∷ replicate 5 true ++ false ∷ []
+six_ones = refl
 
 -- a stuff bit comes behind six equal bits
 abbrev pub put_at_six : List Bool → Bool → List Bool
