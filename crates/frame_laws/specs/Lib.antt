@@ -1,0 +1,4 @@
+pub mod Unstuffing
+pub mod Checksum
+pub mod Times
+pub mod WrongBits
