@@ -1,0 +1,47 @@
+//! Laws of every play of a file and of its bus: each is the contract of a function with an empty body.
+#![tactic(auto)]
+
+ghost use Rattle.std.specs.Prelude.{◌≡◌, ◌≤◌, ◌⊎◌, ℕ, ◌+◌, List, Ok, Some, None};
+ghost use Rattle.bus_specs.specs.Due.{Due};
+ghost use Rattle.play_specs.specs.Scenario.{Scenario, scenario_lines, scenario_status};
+ghost use Rattle.play_specs.specs.Play.{Play, IsPlay, scenario_of, setup_of, play_lines, play_status};
+ghost use Rattle.play_specs.specs.PlayReading.{IsReadAs};
+ghost use Rattle.log_laws.specs.Scenarios.{IsScenario};
+ghost use Rattle.log_laws.specs.Moments.{ByMoment, MomentsNeverFall};
+ghost use Rattle.log_laws.specs.Answers.{AnswersAll};
+ghost use Rattle.log_laws.specs.Events.{EndTellsEvents};
+ghost use Rattle.play_laws.specs.Ends.{TellsEvents, left_behind};
+
+/// Every play is a scenario whose parts fit, so each law of the logs of scenarios holds of its log.
+pub fn every_play_is_a_scenario_that_fits()
+    ensures scenario { (p : Play) → IsPlay p → IsScenario (scenario_of p) }
+
+    // What is asked stands by moment.
+    ensures by_moment { (p : Play) → IsPlay p → ByMoment (scenario_of p) }
+
+    // A nominal bit takes a tick at least.
+    ensures tick { (p : Play) → IsPlay p → 1 ≤ (setup_of p).nominal }
+{}
+
+/// Of every file that is read as a play, with any budget of events.
+pub fn every_file_of_a_play_runs_by_the_laws()
+    // The moments of its log never fall.
+    ensures later { (bytes : List ℕ) (p : Play) (budget : ℕ) → IsReadAs bytes (Ok p) → MomentsNeverFall (play_lines budget p) }
+
+    // Where its run ends with status 0, its log answers each action up to the stop, in order, and nothing else.
+    ensures answered { (bytes : List ℕ) (p : Play) (budget : ℕ) → IsReadAs bytes (Ok p) → play_status budget p ≡ 0
+        → AnswersAll (scenario_of p) (play_lines budget p) }
+
+    // The number in the end line is the number of the events before it.
+    ensures events { (bytes : List ℕ) (p : Play) (budget : ℕ) → IsReadAs bytes (Ok p) → EndTellsEvents (play_lines budget p) }
+{}
+
+/// The status is 8 exactly where an event is left up to the stop behind the budget, else it is 0.
+pub fn the_status_tells_what_is_left()
+    ensures spent { (budget : ℕ) (p : Scenario) (d : Due) → left_behind budget p ≡ Some d → (scenario_status budget p ≡ 8) × (d.moment ≤ p.stop) }
+    ensures done { (budget : ℕ) (p : Scenario) → left_behind budget p ≡ None → scenario_status budget p ≡ 0 }
+
+    // With status 8 one event more happens where the budget is larger by one, with status 0 none.
+    ensures one_more { (budget : ℕ) (p : Scenario) → scenario_status budget p ≡ 8 → TellsEvents (budget + 1) (scenario_lines (budget + 1) p) }
+    ensures no_more { (budget : ℕ) (p : Scenario) → scenario_status budget p ≡ 0 → scenario_lines (budget + 1) p ≡ scenario_lines budget p }
+{}
