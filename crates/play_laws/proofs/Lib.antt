@@ -1,2 +1,3 @@
 pub mod Plays
 pub mod Statuses
+pub mod Attempts

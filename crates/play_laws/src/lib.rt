@@ -1,8 +1,12 @@
 //! Laws of every play of a file and of its bus: each is the contract of a function with an empty body.
 #![tactic(auto)]
 
-ghost use Rattle.std.specs.Prelude.{◌≡◌, ◌≤◌, ◌⊎◌, ℕ, ◌+◌, List, Ok, Some, None};
-ghost use Rattle.bus_specs.specs.Due.{Due};
+ghost use Rattle.std.specs.Prelude.{◌≡◌, ◌≤◌, ◌⊎◌, ℕ, ◌+◌, ◌-◌, ◌*◌, true, false, List, [], ◌∷◌, Contains, Ok, Some, None, is_some};
+ghost use Rattle.bus_specs.specs.Bus.{Bus, Member, Running, Fault, Hurt, off, passive};
+ghost use Rattle.bus_specs.specs.Start.{start, listeners};
+ghost use Rattle.bus_specs.specs.Finish.{finish};
+ghost use Rattle.bus_specs.specs.Due.{Due, next_due, at, Start, Return};
+ghost use Rattle.bus_specs.specs.Sound.{Sound, on};
 ghost use Rattle.play_specs.specs.Scenario.{Scenario, scenario_lines, scenario_status};
 ghost use Rattle.play_specs.specs.Play.{Play, IsPlay, scenario_of, setup_of, play_lines, play_status};
 ghost use Rattle.play_specs.specs.PlayReading.{IsReadAs};
@@ -11,6 +15,7 @@ ghost use Rattle.log_laws.specs.Moments.{ByMoment, MomentsNeverFall};
 ghost use Rattle.log_laws.specs.Answers.{AnswersAll};
 ghost use Rattle.log_laws.specs.Events.{EndTellsEvents};
 ghost use Rattle.play_laws.specs.Ends.{TellsEvents, left_behind};
+ghost use Rattle.play_laws.specs.Steps.{Starts, Runs, Becomes, TakesPart, unacknowledged, span, idle_spans, Returns, OneMore, NextUpTo};
 
 /// Every play is a scenario whose parts fit, so each law of the logs of scenarios holds of its log.
 pub fn every_play_is_a_scenario_that_fits()
@@ -44,4 +49,34 @@ pub fn the_status_tells_what_is_left()
     // With status 8 one event more happens where the budget is larger by one, with status 0 none.
     ensures one_more { (budget : ℕ) (p : Scenario) → scenario_status budget p ≡ 8 → TellsEvents (budget + 1) (scenario_lines (budget + 1) p) }
     ensures no_more { (budget : ℕ) (p : Scenario) → scenario_status budget p ≡ 0 → scenario_lines (budget + 1) p ≡ scenario_lines budget p }
+{}
+
+/// A node that is off, asleep or not live takes no part in a frame that starts.
+pub fn only_able_nodes_take_part()
+    ensures sender { (b : Bus) (since now : ℕ) (r : Running) (m : Member) → Starts b since now r → Contains b.members m → m.node ≡ r.sender
+        → TakesPart m }
+    ensures listener { (b : Bus) (since now : ℕ) (r : Running) (m : Member) → Starts b since now r → Contains b.members m
+        → Contains r.listeners m.node → TakesPart m }
+{}
+
+/// A failed attempt is detected by its sender or by a listener that is not passive (ISO 11898-1, fault confinement).
+pub fn each_failure_is_detected_by_its_own()
+    ensures detected { (b : Bus) (since now : ℕ) (r : Running) (e : Fault) → Starts b since now r → r.fault ≡ Some e
+        → (e.by ≡ r.sender) ⊎ Contains r.listeners e.by }
+
+    // It is a node of the bus that is not off.
+    ensures able { (b : Bus) (since now : ℕ) (r : Running) (e : Fault) → Starts b since now r → r.fault ≡ Some e → on b.members e.by ≡ true }
+
+    // A passive node never makes the attempt of another fail.
+    ensures passive { (b : Bus) (since now : ℕ) (r : Running) (e : Fault) (m : Member) → Starts b since now r → r.fault ≡ Some e
+        → Contains b.members m → m.node ≡ e.by → passive m ≡ true → e.by ≡ r.sender }
+
+    // An attempt that nobody hears fails.
+    ensures unheard { (b : Bus) (since now : ℕ) (r : Running) → Starts b since now r → r.listeners ≡ [] → is_some r.fault ≡ true }
+
+    // Where the only listener is hurt the sender finds no acknowledgement; where another one hears it nothing fails.
+    ensures alone { (b : Bus) (since now : ℕ) (r : Running) (x : Hurt) → Starts b since now r → r.hurt ≡ Some x
+        → listeners b r.sender ≡ x.node ∷ [] → r.fault ≡ Some (unacknowledged r.sender) }
+    ensures heard { (b : Bus) (since now : ℕ) (r : Running) (x : Hurt) (node : ℕ) → Starts b since now r → r.hurt ≡ Some x
+        → Contains (listeners b r.sender) node → (node ≡ x.node → ⊥) → r.fault ≡ None }
 {}
