@@ -1,3 +1,4 @@
 pub mod Plays
 pub mod Statuses
 pub mod Attempts
+pub mod Recovery

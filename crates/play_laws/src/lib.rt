@@ -80,3 +80,25 @@ pub fn each_failure_is_detected_by_its_own()
     ensures heard { (b : Bus) (since now : ℕ) (r : Running) (x : Hurt) (node : ℕ) → Starts b since now r → r.hurt ≡ Some x
         → Contains (listeners b r.sender) node → (node ≡ x.node → ⊥) → r.fault ≡ None }
 {}
+
+/// A node that is off returns when it has seen 128 occurrences of 11 recessive bits: one behind each frame, and the whole spans of
+/// 11 bits while the bus is idle (ISO 11898-1, bus-off recovery).
+pub fn an_off_node_returns_after_128_occurrences()
+    // At the end of a frame a node that was off has one more, and keeps its counters.
+    ensures one_more { (b : Bus) (now : ℕ) (r : Running) (m m' : Member) → Runs b r → Becomes b (finish b now).0 m m' → off m ≡ true → OneMore m m' }
+
+    // One that goes off has none.
+    ensures goes_off { (b : Bus) (now : ℕ) (r : Running) (m m' : Member) → Runs b r → Becomes b (finish b now).0 m m'
+        → off m ≡ false → off m' ≡ true → m'.occurrences ≡ Some 0 }
+
+    // At a start the idle spans are added.
+    ensures idle { (b : Bus) (since now : ℕ) (r : Running) (m m' : Member) (seen : ℕ) → Starts b since now r → Becomes b (start b now).0 m m'
+        → m.occurrences ≡ Some seen → m'.occurrences ≡ Some (seen + idle_spans b now) }
+
+    // A return that is due is one where 128 are reached, on a bus with no frame.
+    ensures due { (b : Bus) (since t node : ℕ) → Sound b → next_due b since ≡ Some (at (Return node) t) → Returns b node t }
+
+    // While no frame runs nothing that is due comes after such a return, so none is put off.
+    ensures prompt { (b : Bus) (since seen : ℕ) (m : Member) → b.running ≡ None → Contains b.members m → m.occurrences ≡ Some seen
+        → NextUpTo b since (b.idle + (128 - seen) * span b) }
+{}
