@@ -1,7 +1,7 @@
 //! Laws of every play of a file and of its bus: each is the contract of a function with an empty body.
 #![tactic(auto)]
 
-ghost use Rattle.std.specs.Prelude.{◌≡◌, ◌≤◌, ◌⊎◌, ℕ, ◌+◌, ◌-◌, ◌*◌, true, false, List, [], ◌∷◌, Contains, Ok, Some, None, is_some};
+ghost use Rattle.std.specs.Prelude.{◌≡◌, ◌≤◌, ◌⊎◌, ℕ, ◌+◌, ◌-◌, ◌*◌, true, false, List, [], ◌∷◌, Contains, Ok, Some, None, is_some, option_map};
 ghost use Rattle.bus_specs.specs.Bus.{Bus, Member, Running, Fault, Hurt, off, passive};
 ghost use Rattle.bus_specs.specs.Start.{start, listeners};
 ghost use Rattle.bus_specs.specs.Finish.{finish};
@@ -15,6 +15,7 @@ ghost use Rattle.log_laws.specs.Moments.{ByMoment, MomentsNeverFall};
 ghost use Rattle.log_laws.specs.Answers.{AnswersAll};
 ghost use Rattle.log_laws.specs.Events.{EndTellsEvents};
 ghost use Rattle.play_laws.specs.Ends.{TellsEvents, left_behind};
+ghost use Rattle.play_laws.specs.Cases.{hurt_bus, failing_bus, returning_bus, first_frame};
 ghost use Rattle.play_laws.specs.Steps.{Starts, Runs, Becomes, TakesPart, unacknowledged, span, idle_spans, Returns, OneMore, NextUpTo};
 
 /// Every play is a scenario whose parts fit, so each law of the logs of scenarios holds of its log.
@@ -101,4 +102,16 @@ pub fn an_off_node_returns_after_128_occurrences()
     // While no frame runs nothing that is due comes after such a return, so none is put off.
     ensures prompt { (b : Bus) (since seen : ℕ) (m : Member) → b.running ≡ None → Contains b.members m → m.occurrences ≡ Some seen
         → NextUpTo b since (b.idle + (128 - seen) * span b) }
+{}
+
+/// There are buses of which the laws of attempts and of recovery say something.
+pub fn the_laws_have_cases()
+    // A passive listener alone is hurt.
+    ensures hurt { (Starts hurt_bus 0 0 (first_frame hurt_bus)) × (is_some (first_frame hurt_bus).hurt ≡ true) × (listeners hurt_bus 0 ≡ 1 ∷ []) }
+
+    // An active listener makes the attempt of another fail.
+    ensures fails { (Starts failing_bus 0 0 (first_frame failing_bus)) × (option_map (λ e. e.by) (first_frame failing_bus).fault ≡ Some 1) }
+
+    // A node returns.
+    ensures returns { (Sound returning_bus) × (next_due returning_bus 0 ≡ Some (at (Return 2) 11000)) }
 {}
