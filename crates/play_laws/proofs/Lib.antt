@@ -1,0 +1,5 @@
+pub mod Plays
+pub mod Statuses
+pub mod Attempts
+pub mod Recovery
+pub mod Cases
