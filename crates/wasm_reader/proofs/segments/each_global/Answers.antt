@@ -1,0 +1,20 @@
+use Rattle.std.proofs.Common.{sym}
+use Rattle.std.proofs.lemmas.Result.{err_from_is_err_and}
+use Rattle.module_specs.specs.Reading.{each_at}
+use Rattle.module_specs.specs.ModuleReading.{global_at}
+use Rattle.module_specs.proofs.Loops.{goes_on, ends, is_done, fails_of}
+use Rattle.wasm_reader.proofs.segments.each_global.Goals as goal
+
+pub returns-in_err-item-clause-is : goal.returns-in_err-item-clause-is
+returns-in_err-item-clause-is c =
+    let p = err_from_is_err_and c.from_residual.result c.from_residual.ensures.1 in
+    rw (p.1, p.2) (ends global_at c.args.bytes.now c.loop.items.items c.args.count c.loop.counter c.loop.place (each_at global_at c.args.bytes.now c.args.count c.args.at) c.in_err-item.field-0.0 c.loop-test.true (fails_of c.in_err-item.field-0.0 (global_at c.args.bytes.now c.loop.place) (sym c.in_err-item.ensures.is)) c.loop.invariant.is)
+
+pub loop-preserved : goal.loop-preserved
+loop-preserved c = record {
+  place = c.in_ok-item.ensures.next;
+  is = rw c.in_ok-push.ensures.items (goes_on global_at c.args.bytes.now c.loop.items.items c.args.count c.loop.counter c.loop.place (each_at global_at c.args.bytes.now c.args.count c.args.at) c.in_ok-item.item c.in_ok-item.next c.loop-test.true (sym c.in_ok-item.ensures.is) c.loop.invariant.is);
+}
+
+pub returns-clause-is : goal.returns-clause-is
+returns-clause-is c = is_done global_at c.args.bytes.now c.loop.items.items c.args.count c.loop.counter c.loop.place (each_at global_at c.args.bytes.now c.args.count c.args.at) c.loop-test.false c.loop.invariant.is
