@@ -1,0 +1,2 @@
+//! Units, as definitions that other crates cite: what a bench knows of a unit. There is no code here.
+#![tactic(auto)]
