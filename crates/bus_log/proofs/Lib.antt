@@ -1,11 +1,6 @@
 pub mod Texts
-pub mod CutLemmas
-pub mod DigitLemmas
 pub mod Named
 pub mod FourWords
-pub mod Options
-pub mod Decimals
-pub mod Separators
 pub mod Fields
 pub mod Written
 pub mod Spelled

@@ -10,16 +10,17 @@ use Rattle.frame_specs.specs.FrameReading.{frame_of, cut}
 use Rattle.frame_specs.proofs.FrameReadingLaws.{cut-spelled}
 use Rattle.log_specs.specs.Line as log
 use Rattle.log_specs.specs.Line.{Line, On, Down, Over, End, Told, Cause, said, words, joined, line_text, level_text, cause_text, bytes_text, numbers_text}
-use Rattle.bus_log.specs.Cuts.{parts}
+use Rattle.plain_text.specs.Parts.{parts}
 use Rattle.bus_log.specs.IsLine.{is_within, is_told, all_below, frame_fits, told_fits, IsLine, Fits}
 use Rattle.bus_log.specs.Spelling.{Spells}
 use Rattle.bus_log.specs.Verbs.{verbs, verb_text, verb_named}
-use Rattle.bus_log.specs.Reading.{number_in, word32, word64, bytes_in, id_in, numbers_in, levels, causes, cause_named, level_named, bare, one, lost_in, wake_in, notice_in, done_in, fail_in, told_by, told_in, status_of, end_in, bus_line_in, node_line_in, line_in, ended, line_of_text}
+use Rattle.bus_log.specs.Reading.{word32, word64, bytes_in, id_in, numbers_in, levels, causes, cause_named, level_named, bare, one, lost_in, wake_in, notice_in, done_in, fail_in, told_by, told_in, status_of, end_in, bus_line_in, node_line_in, line_in, ended, line_of_text}
+use Rattle.plain_text.specs.Decimal.{number_in}
 use Rattle.bus_log.specs.declared.verb.Verb.{Verb}
 use Rattle.bus_log.specs.declared.verb.Verb.TheVariants as verb
-use Rattle.bus_log.proofs.Options.{bind_some, map_some, if_some}
-use Rattle.bus_log.proofs.Decimals.{IsNumber, number_in-some}
-use Rattle.bus_log.proofs.Separators.{joined_parts}
+use Rattle.plain_text.proofs.Options.{bind_some, map_some, if_some}
+use Rattle.plain_text.proofs.Decimals.{IsNumber, number_in-some}
+use Rattle.plain_text.proofs.Separators.{joined_parts}
 use Rattle.bus_log.proofs.Fields.{word_is, is_within-from, below_limit, named-some, numbers_in-some, bytes_in-some, id_in-some, frame_of-some}
 
 -- what is told has this word, and these words behind the node

@@ -8,9 +8,10 @@ use Rattle.frame_specs.specs.FrameText.{frame_text, hex}
 use Rattle.log_specs.specs.Line as log
 use Rattle.log_specs.specs.Line.{Line, On, Down, Over, End, Told, Cause, said, words, joined, line_text, level_text, cause_text, bytes_text, numbers, numbers_text}
 use Rattle.bus_log.specs.IsLine.{is_within, is_told, all_below, frame_fits, told_fits, IsLine, Fits}
-use Rattle.bus_log.specs.Reading.{number_in, word32, word64, cause_named, level_named, told_in, status_of, line_in, line_of_text}
-use Rattle.bus_log.proofs.Decimals.{number_in-decimal}
-use Rattle.bus_log.proofs.Separators.{over, all_over, over-append, over-decimal, over-hex, over-hex_bytes, over-frame, line_without, words_of_line, cut_line}
+use Rattle.bus_log.specs.Reading.{word32, word64, cause_named, level_named, told_in, status_of, line_in, line_of_text}
+use Rattle.plain_text.specs.Decimal.{number_in}
+use Rattle.plain_text.proofs.Decimals.{number_in-decimal}
+use Rattle.plain_text.proofs.Separators.{over, all_over, over-append, over-decimal, over-hex, over-hex_bytes, over-frame, line_without, words_of_line, cut_line}
 use Rattle.bus_log.proofs.Fields.{decimal_no_dash, is_within-parts, limit_above, numbers_in-text, bytes_in-text, id_in-text, frame_of-text}
 
 -- ---- each word is above the space

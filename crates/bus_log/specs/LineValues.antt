@@ -4,7 +4,8 @@ use Rattle.frame_specs.specs.Frame.{Frame, Data}
 use Rattle.frame_specs.specs.FrameReading.{frame_of}
 use Rattle.log_specs.specs.Line.{On, End, Done, Fail, Hurt, Bad, FormatError, Keep, Req}
 use Rattle.bus_log.specs.IsLine.{is_line, line_fits}
-use Rattle.bus_log.specs.Reading.{line_of_text, number_in, number_of, numbers_in, bytes_in, id_in}
+use Rattle.bus_log.specs.Reading.{line_of_text, numbers_in, bytes_in, id_in}
+use Rattle.plain_text.specs.Decimal.{number_in, number_of}
 
 abbrev empty : Frame
 empty = record { id = 0x123; ext = false; kind = Data; bytes = [] }

@@ -4,7 +4,8 @@ use Rattle.operation_specs.specs.Operation.{Declared, Active, Passive, Off}
 use Rattle.frame_specs.specs.FrameReading.{frame_of, bytes_of, cut}
 use Rattle.log_specs.specs.Line as log
 use Rattle.log_specs.specs.Line.{Line, On, Down, Over, End, Told, Cause, level_text, cause_text}
-use Rattle.bus_log.specs.Cuts.{parts}
+use Rattle.plain_text.specs.Parts.{parts}
+use Rattle.plain_text.specs.Decimal.{number_in}
 use Rattle.bus_log.specs.IsLine.{is_within}
 use Rattle.bus_log.specs.Verbs.{named, verb_named}
 use Rattle.bus_log.specs.declared.verb.Verb.{Verb}
@@ -15,27 +16,6 @@ abbrev ◌>>=◌ : {A B : Type 0} → Option A → (A → Option B) → Option B
 o >>= f = option_and_then f o
 
 -- ---- numbers
-
-abbrev pub is_digit : ℕ → Bool
-is_digit b = nat_le 48 b && nat_le b 57
-
--- the number so far, with more decimal digits behind it
-abbrev pub digits_value : ℕ → List ℕ → Option ℕ
-digits_value n [] = Some n
-digits_value n (b ∷ bs) = if is_digit b then digits_value (10 * n + (b - 48)) bs else None
-
--- a decimal number with no sign and no leading zero
-unfoldable pub number_of : List ℕ → Option ℕ
-number_of [] = None
-number_of (b ∷ []) = digits_value 0 (b ∷ [])
-number_of (b ∷ c ∷ bs) = if b == 48 then None else digits_value 0 (b ∷ c ∷ bs)
-
-abbrev pub within : ℕ → ℕ → ℕ → Option ℕ
-within low high n = if is_within low high n then Some n else None
-
--- such a number in a range
-unfoldable pub number_in : ℕ → ℕ → List ℕ → Option ℕ
-number_in low high text = option_and_then (within low high) (number_of text)
 
 -- the highest numbers of 32 and of 64 bits
 abbrev pub word32 : ℕ

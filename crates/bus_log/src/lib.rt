@@ -1,7 +1,6 @@
 //! The lines of a log: as values, and as text both ways.
 #![tactic(auto)]
 
-mod cutting;
 mod laws;
 mod line;
 mod line_list;

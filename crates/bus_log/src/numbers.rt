@@ -1,10 +1,11 @@
 //! Decimal numbers.
 ghost use Rattle.std.specs.Prelude.{◌≡◌, ◌<◌, ◌≤◌, ◌^◌, IfOk, IfSome, option_and_then, option_map, map};
-ghost use Rattle.bus_log.specs.Reading.{number_in as number_of, digits_value, within, rising_from, numbers_in as numbers_of, word32, word64};
+ghost use Rattle.bus_log.specs.Reading.{rising_from, numbers_in as numbers_of, word32, word64};
+ghost use Rattle.plain_text.specs.Decimal.{number_in as number_of, digits_value, within};
 
-use crate::cutting::parts;
 use crate::verb::is_word;
 use can_frame::Numbers;
+use plain_text::{number_in, parts};
 use std::alloc::{AllocError, Global};
 
 /// The number of 64 bits that a text is.
@@ -55,37 +56,4 @@ fn rising_numbers(alloc: Global, texts: &[&[u8]]) -> Result<Option<Numbers>, All
         low = number + 1;
     }
     Ok(Some(Numbers::of(numbers)))
-}
-
-/// The decimal number that this text spells with no sign and no leading zero; None where it
-/// spells none from `low` to `high`.
-#[tactic(auto, unfolding(crate::specs::Reading::number_in, crate::specs::Reading::number_of))]
-fn number_in(low: u64, high: u64, text: &[u8]) -> Option<u64>
-    ensures value { result ≡ number_of low high text.now }
-    ensures high { IfSome result (λ n. n ≤ high) }
-{
-    match text {
-        [] => None,
-        [b'0', _, ..] => None,
-        _ => digits(low, high, text),
-    }
-}
-
-/// The number of these digits; None where one is no digit, or the number isn't from `low` to `high`.
-fn digits(low: u64, high: u64, text: &[u8]) -> Option<u64>
-    ensures value { result ≡ option_and_then (within low high) (digits_value 0 text.now) }
-    ensures high { IfSome result (λ n. n ≤ high) }
-{
-    let mut value = 0u64;
-    for byte in text {
-        if *byte < b'0' || *byte > b'9' {
-            return None;
-        }
-        let next = 10 * u128::from(value) + u128::from(*byte - b'0');
-        if next > u128::from(high) {
-            return None;
-        }
-        value = next as u64;
-    }
-    if low <= value { Some(value) } else { None }
 }

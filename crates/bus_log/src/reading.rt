@@ -6,10 +6,10 @@ ghost use Rattle.bus_log.specs.Spelling.{Spells};
 ghost use Rattle.bus_log.specs.Reading.{one, bare, line_of_text, line_in, end_in, node_line_in, unit_line_in as unit_of, bus_line_in, cause_named as cause_of_word};
 
 use crate::Line;
-use crate::cutting::{find, parts};
 use crate::numbers::{byte_in, word32_in, word64_in};
 use crate::told::{Place, told_line};
 use crate::verb::{cause_named, is_word, verb_named};
+use plain_text::{find, parts};
 use std::alloc::{AllocError, Global};
 
 /// The line whose text these bytes are, with its line feed; None exactly where they are the text of none.

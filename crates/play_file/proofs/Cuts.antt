@@ -1,49 +1,8 @@
--- The parts of a text, one cut after the other.
+-- Lines of too many words.
 use Rattle.std.proofs.Common.{◌≡◌, ℕ, ◌+◌, ◌==◌, Bool, true, false, List, [], ◌∷◌, length, Option, Some, None, ◌≤◌, refl, sym, ap, subst, ◌∙◌, arith}
-use Rattle.std.specs.Prelude.{option_map, MatchOption, if◌then◌else◌}
-use Rattle.frame_specs.specs.FrameReading.{cut}
-use Rattle.play_file.specs.PlainText.{parts, with_front}
-use Rattle.play_file.specs.Parts.{IsCut, IsOther}
-
--- what a cut says of the parts
-abbrev pub SaysParts : ℕ → List ℕ → Option (List ℕ × List ℕ) → Type 0
-SaysParts separator text o = MatchOption o (parts separator text ≡ text ∷ []) (λ p. IsCut separator text p.0 p.1)
-
-behind_byte : (separator b : ℕ) (bs : List ℕ) (o : Option (List ℕ × List ℕ)) → (b == separator) ≡ false → SaysParts separator bs o
-    → SaysParts separator (b ∷ bs) (option_map (λ p. (b ∷ p.0, p.1)) o)
-behind_byte separator b bs (Some p) other so_far = record { parts_are = rw other (ap (with_front b) so_far.parts_are); shorter = omega (arith, so_far.shorter) }
-behind_byte separator b bs None other so_far = rw other (ap (with_front b) so_far)
-
-pub cut_says_parts : (separator : ℕ) (text : List ℕ) → SaysParts separator text (cut separator text)
-cut_says_parts separator [] = refl
-cut_says_parts separator (b ∷ bs) =
-    let so_far = cut_says_parts separator bs in
-    let P : Bool → Type 0 = λ v. (b == separator) ≡ v → SaysParts separator (b ∷ bs) (if v then Some ([], bs) else option_map (λ p. (b ∷ p.0, p.1)) (cut separator bs)) in
-    let cases : P (b == separator) = elim (b == separator) as P [
-      | true ↦ λ same. record { parts_are = rw same refl; shorter = omega arith }
-      | false ↦ λ other. behind_byte separator b bs (cut separator bs) other so_far
-    ] in
-    cases refl
-
-pub parts_said : {A B : Type 0} (separator : ℕ) (text : List ℕ) (front : A → List ℕ) (rest : B → List ℕ) (o : Option (A × B))
-    → option_map (λ p. (front p.0, rest p.1)) o ≡ cut separator text
-    → MatchOption o (parts separator text ≡ text ∷ []) (λ p. IsCut separator text (front p.0) (rest p.1))
-parts_said separator text front rest (Some p) found =
-    let P : Option (List ℕ × List ℕ) → Type 0 = SaysParts separator text in subst P (sym found) (cut_says_parts separator text)
-parts_said separator text front rest None found =
-    let P : Option (List ℕ × List ℕ) → Type 0 = SaysParts separator text in subst P (sym found) (cut_says_parts separator text)
-
-length_with_front : (b : ℕ) (parts : List (List ℕ)) → 1 ≤ length (with_front b parts)
-length_with_front b [] = omega arith
-length_with_front b (part ∷ parts) = omega arith
-
--- a text has a part
-pub some_part : (separator : ℕ) (text : List ℕ) → 1 ≤ length (parts separator text)
-some_part separator [] = omega arith
-some_part separator (b ∷ bs) = elim (b == separator) as (λ v. 1 ≤ length (if v then [] ∷ parts separator bs else with_front b (parts separator bs))) [
-  | true ↦ omega arith
-  | false ↦ length_with_front b (parts separator bs)
-]
+use Rattle.std.specs.Prelude.{if◌then◌else◌}
+use Rattle.plain_text.specs.Parts.{parts, with_front}
+use Rattle.play_file.specs.Parts.{IsOther}
 
 pub too_many : (words rest : List (List ℕ)) (a b c d e f : List ℕ) → words ≡ a ∷ b ∷ c ∷ d ∷ e ∷ f ∷ rest → 1 ≤ length rest → IsOther words
 too_many words rest a b c d e f all more =

@@ -5,14 +5,14 @@ use Rattle.std.proofs.lemmas.Bool.Decides.{nat_tests}
 use Rattle.std.proofs.lemmas.List.{append-nil, length-map}
 use Rattle.std.proofs.lemmas.List.Elements.{All-cons, All-nil}
 use Rattle.frame_specs.specs.Frame.{Frame, Data, is_well_formed}
-use Rattle.play_file.specs.PlainText.{words_of}
+use Rattle.plain_text.specs.Parts.{words_of}
 use Rattle.play_specs.specs.Play.{Play, PlayAction, Verb, Send, Wake, Sleep, Keep, Discard, IsAction, IsPlay}
 use Rattle.play_specs.specs.PlayText.{text_lines, ended, play_text}
 use Rattle.play_specs.specs.PlayReading.{Begins, IsFirstBadLine, IsReadAs, IsExact}
 use Rattle.play_specs.specs.WrongReaders.{idle, idle-IsPlay, with_frame, action_with_frame, all_with_frame}
 use Rattle.play_file.specs.FileLines.{line_feeds, first_lines}
 use Rattle.play_file.specs.Walk.{steps, play_of_lines, header_of, step}
-use Rattle.play_file.proofs.Words.{Without, AllWithout}
+use Rattle.plain_text.proofs.Separators.{Without, AllWithout}
 use Rattle.play_file.proofs.Steps.{Reads, entry_line, action_line, text_lines-laid, header_read, step_read}
 use Rattle.play_file.proofs.Written.{lines_taken, lines_plain}
 use Rattle.play_file.proofs.Files.{same_line, no_line, no_line_in_nothing, ended-cons, begins_plain, plain_last, one_answer}

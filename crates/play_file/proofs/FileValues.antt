@@ -2,7 +2,7 @@
 use Rattle.std.specs.Prelude.{ℕ, false, List, [], ◌∷◌, ◌++◌, Some, None, Ok, codes, refl}
 use Rattle.frame_specs.specs.Frame.{Data}
 use Rattle.frame_specs.specs.FrameReading.{frame_of}
-use Rattle.play_file.specs.PlainText.{number_of, number_in}
+use Rattle.plain_text.specs.Decimal.{number_of, number_in}
 use Rattle.play_specs.specs.Play.{Send, Wake}
 use Rattle.play_specs.specs.PlayReading.{IsFirstBadLine, IsReadAs}
 use Rattle.play_file.specs.Walk.{walk, header_in, entry_in, action_in}

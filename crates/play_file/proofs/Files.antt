@@ -5,13 +5,13 @@ use Rattle.std.proofs.lemmas.Bool.Decides.{nat_tests}
 use Rattle.std.proofs.lemmas.List.{append-nil}
 use Rattle.std.proofs.lemmas.List.Concat.{flat_map-cons}
 use Rattle.log_specs.specs.Line.{joined}
-use Rattle.play_file.specs.PlainText.{parts, words_of}
+use Rattle.plain_text.specs.Parts.{parts, words_of}
 use Rattle.play_specs.specs.Play.{Play}
 use Rattle.play_specs.specs.PlayText.{text_lines, ended, play_text}
 use Rattle.play_specs.specs.PlayReading.{Begins, IsFirstBadLine, IsReadAs}
 use Rattle.play_specs.specs.WrongReaders.{idle, idle-IsPlay}
 use Rattle.play_file.specs.Walk.{header_of, step, steps, play_of_lines, taken, walk_lines, walk_parts, walk}
-use Rattle.play_file.proofs.Words.{Without, AllWithout, parts_without, some_part, joined_parts}
+use Rattle.plain_text.proofs.Separators.{Without, AllWithout, parts_without, some_part, joined_parts}
 use Rattle.play_file.proofs.Steps.{Reads, header_read, step_read}
 use Rattle.play_file.proofs.Written.{lines_taken, lines_plain}
 

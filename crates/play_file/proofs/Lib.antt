@@ -1,11 +1,7 @@
-pub mod Options
-pub mod Words
-pub mod Numbers
 pub mod Steps
 pub mod Written
 pub mod Files
 pub mod Cuts
-pub mod Digits
 pub mod Walked
 pub mod FileLaws
 pub mod FileValues

@@ -10,13 +10,14 @@ use Rattle.frame_specs.specs.Frame.{Frame, is_fd}
 use Rattle.frame_specs.specs.FrameReading.{frame_of, Spells}
 use Rattle.frame_specs.proofs.FrameReadingLaws.{spells_from_frame_of}
 use Rattle.bus_specs.specs.Bus.{ErrorEntry}
-use Rattle.play_file.specs.PlainText.{number_in, words_of}
+use Rattle.plain_text.specs.Decimal.{number_in}
+use Rattle.plain_text.specs.Parts.{words_of}
 use Rattle.play_specs.specs.Play.{Play, PlayAction, Verb, Send, Wake, Sleep, Keep, Discard, Between, IsRate, IsEntry, IsVerb, IsAction, Rises, IsPlay}
 use Rattle.play_specs.specs.PlayText.{spaced, header_words, by_text, error_words, verb_words, action_words, text_lines}
 use Rattle.play_file.specs.Walk.{rate_or_none, fd_divides, if_divides, header_in, header_of, with_entry, with_action, no_action, takes_entry, by_of, entry_in, last_of, bare_verb, sendable, sent, action_in, then_action, then_entry, with_words, step}
-use Rattle.play_file.proofs.Options.{bind_some, map_some, if_some}
-use Rattle.play_file.proofs.Words.{joined_parts}
-use Rattle.play_file.proofs.Numbers.{IsNumber, number_in-some}
+use Rattle.plain_text.proofs.Options.{bind_some, map_some, if_some}
+use Rattle.plain_text.proofs.Separators.{joined_parts}
+use Rattle.plain_text.proofs.Decimals.{IsNumber, number_in-some}
 
 word_is : (text word : List ℕ) → bytes_eq text word ≡ true → word ≡ text
 word_is text word same = sym ((bytes_eq-Decides text word).0 same)

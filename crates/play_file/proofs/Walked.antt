@@ -2,16 +2,16 @@
 use Rattle.std.proofs.Common.{◌≡◌, ◌≤◌, ℕ, ◌+◌, List, [], ◌∷◌, ◌++◌, length, Option, Result, Ok, Err, refl, sym, ap, subst, ◌∙◌, arith, length-append}
 use Rattle.std.specs.Prelude.{map, IfOk, IfErr}
 use Rattle.std.proofs.lemmas.List.{length-map}
-use Rattle.play_file.specs.PlainText.{parts, words_of}
+use Rattle.plain_text.specs.Parts.{parts, words_of}
 use Rattle.play_specs.specs.Play.{Play}
 use Rattle.play_specs.specs.PlayText.{text_lines, ended}
 use Rattle.play_specs.specs.PlayReading.{IsFirstBadLine, IsReadAs}
-use Rattle.play_file.specs.Parts.{IsCut}
+use Rattle.plain_text.specs.Parts.{IsCut}
 use Rattle.play_file.specs.Walk.{header_of, step, taken, walk_lines, walk_parts, walk}
 use Rattle.play_file.specs.Answers.{Names, Answers}
 use Rattle.play_file.specs.declared.error.PlayError.{PlayError}
 use Rattle.play_file.specs.declared.error.PlayError.TheVariants.{Line, Memory}
-use Rattle.play_file.proofs.Words.{some_part}
+use Rattle.plain_text.proofs.Separators.{some_part}
 use Rattle.play_file.proofs.Steps.{entry_line, action_line, text_lines-laid}
 use Rattle.play_file.proofs.Files.{walk_exact, walk_is}
 

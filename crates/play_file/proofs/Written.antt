@@ -9,12 +9,13 @@ use Rattle.frame_specs.specs.Frame.{Frame, is_fd}
 use Rattle.frame_specs.specs.FrameText.{frame_text}
 use Rattle.frame_specs.proofs.FrameReadingLaws.{frame_of_from_spells}
 use Rattle.bus_specs.specs.Bus.{ErrorEntry}
-use Rattle.play_file.specs.PlainText.{number_in, number_of, words_of}
+use Rattle.plain_text.specs.Decimal.{number_in, number_of}
+use Rattle.plain_text.specs.Parts.{words_of}
 use Rattle.play_specs.specs.Play.{Play, PlayAction, Verb, Send, Wake, Sleep, Keep, Discard, Between, IsRate, IsEntry, IsSendable, IsAction, Rises, IsPlay}
 use Rattle.play_specs.specs.PlayText.{spaced, header_words, by_text, error_words, verb_words, action_words, text_lines}
 use Rattle.play_file.specs.Walk.{rate_or_none, fd_divides, if_divides, header_in, header_of, with_entry, with_action, by_of, entry_in, last_of, sendable, sent, action_in, then_action, with_words, step, steps, play_of_lines}
-use Rattle.play_file.proofs.Words.{over, all_over, over-decimal, over-frame, words_of_line, line_without, AllWithout}
-use Rattle.play_file.proofs.Numbers.{number_in-decimal}
+use Rattle.plain_text.proofs.Separators.{over, all_over, over-decimal, over-frame, words_of_line, line_without, AllWithout}
+use Rattle.plain_text.proofs.Decimals.{number_in-decimal}
 use Rattle.play_file.proofs.Steps.{entry_line, action_line, text_lines-laid}
 
 -- ---- the header
@@ -52,10 +53,10 @@ header_of-words p is =
     (number_in-decimal 0 (2 ^ 62) p.stop (omega arith) (omega arith, is.stop))
     ∙ if_divides-all p.resolution p.rate (unwrap_or p.fd_rate 0) p.nodes p.stop p.fd_rate (divides p.resolution p.rate is.rate) fd.0 fd.1
 
-header_over : (p : Play) → IsPlay p → all_over (header_words p) ≡ true
+header_over : (p : Play) → IsPlay p → all_over 32 (header_words p) ≡ true
 header_over p is =
     let fd = fd_rate_is p.resolution p.fd_rate is.fd_rate in
-    rw (over-decimal p.resolution (omega (arith, is.resolution.1)), over-decimal p.rate (omega (arith, is.rate.in_range.1)), over-decimal (unwrap_or p.fd_rate 0) (omega (arith, fd.2.1)), over-decimal p.nodes (omega (arith, is.nodes.1)), over-decimal p.stop (omega (arith, is.stop))) refl
+    rw (over-decimal 32 p.resolution (omega arith) (omega (arith, is.resolution.1)), over-decimal 32 p.rate (omega arith) (omega (arith, is.rate.in_range.1)), over-decimal 32 (unwrap_or p.fd_rate 0) (omega arith) (omega (arith, fd.2.1)), over-decimal 32 p.nodes (omega arith) (omega (arith, is.nodes.1)), over-decimal 32 p.stop (omega arith) (omega (arith, is.stop))) refl
 
 pub header_taken : (p : Play) → IsPlay p → header_of (words_of (spaced (header_words p))) ≡ Some (bare p)
 header_taken p is = ap header_of (words_of_line (codes "play") (decimal p.resolution ∷ decimal p.rate ∷ decimal (unwrap_or p.fd_rate 0) ∷ decimal p.nodes ∷ decimal p.stop ∷ []) (header_over p is)) ∙ header_of-words p is
@@ -97,13 +98,13 @@ entry_in-texts nodes e some few is = entry_in_parts nodes (decimal e.first) (dec
     (by_of-text nodes e.by some few is.by)
     (number_in-decimal 0 1023 e.bit (omega arith) (omega arith, is.bit))
 
-over-by : (nodes : ℕ) (by : Option ℕ) → nodes ≤ 32 → IfSome by (λ n. n < nodes) → over (by_text by) ≡ true
+over-by : (nodes : ℕ) (by : Option ℕ) → nodes ≤ 32 → IfSome by (λ n. n < nodes) → over 32 (by_text by) ≡ true
 over-by nodes None few known = refl
-over-by nodes (Some n) few known = over-decimal n (omega arith)
+over-by nodes (Some n) few known = over-decimal 32 n (omega arith) (omega arith)
 
-entry_over : (nodes : ℕ) (e : ErrorEntry) → nodes ≤ 32 → IsEntry nodes e → all_over (error_words e) ≡ true
+entry_over : (nodes : ℕ) (e : ErrorEntry) → nodes ≤ 32 → IsEntry nodes e → all_over 32 (error_words e) ≡ true
 entry_over nodes e few is =
-    rw (over-decimal e.first (omega (arith, is.first.1)), over-decimal e.count (omega (arith, is.count.1)), over-decimal e.kind (omega (arith, is.kind.1)), over-by nodes e.by few is.by, over-decimal e.bit (omega (arith, is.bit))) refl
+    rw (over-decimal 32 e.first (omega arith) (omega (arith, is.first.1)), over-decimal 32 e.count (omega arith) (omega (arith, is.count.1)), over-decimal 32 e.kind (omega arith) (omega (arith, is.kind.1)), over-by nodes e.by few is.by, over-decimal 32 e.bit (omega arith) (omega (arith, is.bit))) refl
 
 entry_words_taken : (p : Play) (e : ErrorEntry) → IsEntry p.nodes e → 1 ≤ p.nodes → p.nodes ≤ 32 → p.actions ≡ [] → length p.errors < 1024 → with_words p (error_words e) ≡ Some (with_entry p e)
 entry_words_taken p e is some few none room =
@@ -143,15 +144,15 @@ action_words_taken p moment node Sleep is some few later = action_in-texts p (re
 action_words_taken p moment node Keep is some few later = action_in-texts p (record { moment = moment; node = node; verb = Keep }) (Some Keep) is some few later refl
 action_words_taken p moment node Discard is some few later = action_in-texts p (record { moment = moment; node = node; verb = Discard }) (Some Discard) is some few later refl
 
-verb_over : (v : Verb) → all_over (verb_words v) ≡ true
+verb_over : (v : Verb) → all_over 32 (verb_words v) ≡ true
 verb_over (Send f) = rw (over-frame f) refl
 verb_over Wake = refl
 verb_over Sleep = refl
 verb_over Keep = refl
 verb_over Discard = refl
 
-action_over : (nodes : ℕ) (fd_rate : Option ℕ) (a : PlayAction) → nodes ≤ 32 → IsAction nodes fd_rate a → all_over (action_words a) ≡ true
-action_over nodes fd_rate a few is = rw (over-decimal a.moment (omega (arith, is.moment)), over-decimal a.node (omega (arith, is.node)), verb_over a.verb) refl
+action_over : (nodes : ℕ) (fd_rate : Option ℕ) (a : PlayAction) → nodes ≤ 32 → IsAction nodes fd_rate a → all_over 32 (action_words a) ≡ true
+action_over nodes fd_rate a few is = rw (over-decimal 32 a.moment (omega arith) (omega (arith, is.moment)), over-decimal 32 a.node (omega arith) (omega (arith, is.node)), verb_over a.verb) refl
 
 -- ---- all lines
 

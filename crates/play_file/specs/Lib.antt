@@ -1,4 +1,3 @@
-pub mod PlainText
 pub mod Parts
 pub mod Walk
 pub mod Verbs

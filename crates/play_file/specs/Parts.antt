@@ -1,13 +1,8 @@
 -- Texts cut at a separator, and the words of a line. No public clause cites this module.
 use Rattle.std.specs.Prelude.{◌≡◌, ◌≢◌, ℕ, ◌+◌, List, [], ◌∷◌, length}
-use Rattle.play_file.specs.PlainText.{parts}
+use Rattle.plain_text.specs.Parts.{parts}
 use Rattle.play_file.specs.declared.text.Words.{Words}
 use Rattle.play_file.specs.declared.text.Words.TheVariants.{Three, Four, Six, Other}
-
--- the first part of a text, and what stands behind its separator
-pub record IsCut (separator : ℕ) (text front rest : List ℕ) : Type 0 where
-  pub parts_are : parts separator text ≡ front ∷ parts separator rest
-  pub shorter : length front + length rest + 1 ≡ length text
 
 -- a number of words that no line has
 pub record IsOther (words : List (List ℕ)) : Type 0 where

@@ -3,7 +3,8 @@ use Rattle.std.specs.Prelude.{ℕ, ◌+◌, ◌-◌, ◌^◌, ◌%◌, ◌==◌,
 use Rattle.frame_specs.specs.Frame.{Frame, is_fd}
 use Rattle.frame_specs.specs.FrameReading.{frame_of}
 use Rattle.bus_specs.specs.Bus.{ErrorEntry}
-use Rattle.play_file.specs.PlainText.{parts, words_of, number_in}
+use Rattle.plain_text.specs.Decimal.{number_in}
+use Rattle.plain_text.specs.Parts.{parts, words_of}
 use Rattle.play_specs.specs.Play.{Play, PlayAction, Verb, Send, Wake, Sleep, Keep, Discard}
 
 infixl 10 ◌>>=◌

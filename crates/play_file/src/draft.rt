@@ -2,12 +2,13 @@
 ghost use Rattle.std.specs.Prelude.{◌≡◌, ◌≤◌, ◌-◌, ◌∷◌, [], if◌then◌else◌, Some, None, IfOk, OnOk, OnErr, option_map, is_some as is_some_of};
 ghost use Rattle.frame_specs.specs.Frame.{is_fd as is_fd_of};
 ghost use Rattle.can_frame.specs.Kinds.{kind_of};
-ghost use Rattle.play_file.specs.PlainText.{words_of};
+ghost use Rattle.plain_text.specs.Parts.{words_of};
 ghost use Rattle.play_specs.specs.Play.{IsPlay};
 ghost use Rattle.play_file.specs.Walk as walk;
 ghost use Rattle.play_file.specs.Verbs.{verb_of};
 
-use crate::text::{Words, is_word, number_in, words_in};
+use crate::text::{Words, is_word, words_in};
+use plain_text::number_in;
 use crate::{Action, Play, Verb};
 use can_frame::{Frame, Kind};
 use error_script::ErrorEntry;

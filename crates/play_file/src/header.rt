@@ -1,10 +1,11 @@
 //! The header of a play file.
 ghost use Rattle.std.specs.Prelude.{◌≡◌, ◌≤◌, ◌^◌, ◌/◌, ◌==◌, Some, None, if◌then◌else◌};
-ghost use Rattle.play_file.specs.PlainText.{words_of};
+ghost use Rattle.plain_text.specs.Parts.{words_of};
 ghost use Rattle.play_file.specs.Walk.{header_of, header_in as header_in_of};
 
 use crate::draft::{Draft, LATEST};
-use crate::text::{Words, is_word, number_in, words_in};
+use crate::text::{Words, is_word, words_in};
+use plain_text::number_in;
 use std::alloc::Global;
 use tick_time::BitTime;
 

@@ -1,6 +1,6 @@
 //! Reading a play file, line by line.
 ghost use Rattle.std.specs.Prelude.{◌≡◌, ◌≤◌, ◌<◌, ◌^◌, ◌+◌, ℕ, Ok, Err, IfOk, IfErr, length};
-ghost use Rattle.play_file.specs.PlainText.{parts};
+ghost use Rattle.plain_text.specs.Parts.{parts};
 ghost use Rattle.play_specs.specs.Play.{Play as play, IsPlay};
 ghost use Rattle.play_specs.specs.PlayText.{play_text};
 ghost use Rattle.play_specs.specs.PlayReading.{IsFirstBadLine, IsReadAs};
@@ -9,7 +9,7 @@ ghost use Rattle.play_file.specs.Answers.{Names, Answers};
 
 use crate::draft::Draft;
 use crate::header::read_header;
-use crate::text::cut;
+use plain_text::cut;
 use crate::{Play, PlayError};
 use std::alloc::Global;
 

@@ -1,5 +1,5 @@
 use Rattle.std.proofs.Common.{◌≡◌, ◌≤◌, ◌+◌, length}
-use Rattle.play_file.specs.PlainText.{parts}
+use Rattle.plain_text.specs.Parts.{parts}
 use Rattle.play_file.specs.Walk.{walk_lines}
 use Rattle.play_file.proofs.reading.read_lines.Given as goal
 

@@ -1,5 +1,6 @@
-use Rattle.play_file.specs.PlainText.{parts, words_of}
-use Rattle.play_file.proofs.Cuts.{too_many, some_part}
+use Rattle.plain_text.specs.Parts.{parts, words_of}
+use Rattle.plain_text.proofs.Separators.{some_part}
+use Rattle.play_file.proofs.Cuts.{too_many}
 use Rattle.play_file.proofs.text.words_in.Goals as goal
 
 pub returns-in-Some-cut-5 : goal.returns-in-Some-cut-5

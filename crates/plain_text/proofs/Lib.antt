@@ -1,0 +1,5 @@
+pub mod Cuts
+pub mod Decimals
+pub mod Digits
+pub mod Options
+pub mod Separators
