@@ -1,5 +1,5 @@
 -- The reader's own walk over a text, which no public clause cites. That it reads each text as the line that it spells is proved in proofs/Written and proofs/Spelled.
-use Rattle.std.specs.Prelude.{ℕ, ◌+◌, ◌-◌, ◌*◌, ◌^◌, ◌==◌, ◌&&◌, ◌||◌, Bool, List, [], ◌∷◌, length, codes, Option, Some, None, option_and_then, option_map, bytes_eq, if◌then◌else◌, nat_le}
+use Rattle.std.specs.Prelude.{ℕ, ◌+◌, ◌*◌, ◌^◌, ◌==◌, ◌||◌, List, [], ◌∷◌, length, codes, Option, Some, None, option_and_then, option_map, bytes_eq, if◌then◌else◌}
 use Rattle.operation_specs.specs.Operation.{Declared, Active, Passive, Off}
 use Rattle.frame_specs.specs.FrameReading.{frame_of, bytes_of, cut}
 use Rattle.log_specs.specs.Line as log

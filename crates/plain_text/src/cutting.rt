@@ -25,11 +25,7 @@ pub fn cut(separator: u8, text: &[u8]) -> Option<(&[u8], &[u8])>
 }
 
 /// The parts of a text between its separators.
-pub fn parts<'a>(
-    alloc: Global,
-    separator: u8,
-    text: &'a [u8],
-) -> Result<Vec<&'a [u8]>, AllocError>
+pub fn parts<'a>(alloc: Global, separator: u8, text: &'a [u8]) -> Result<Vec<&'a [u8]>, AllocError>
     ensures { IfOk result (λ v. map (λ w. w.now) v.items ≡ parts_of separator text.now) }
 {
     let mut parts = Vec::new(alloc);

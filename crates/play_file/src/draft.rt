@@ -8,10 +8,10 @@ ghost use Rattle.play_file.specs.Walk as walk;
 ghost use Rattle.play_file.specs.Verbs.{verb_of};
 
 use crate::text::{Words, is_word, words_in};
-use plain_text::number_in;
 use crate::{Action, Play, Verb};
 use can_frame::{Frame, Kind};
 use error_script::ErrorEntry;
+use plain_text::number_in;
 use std::alloc::{AllocError, Global};
 use std::marker::Model;
 use tick_time::BitTime;

@@ -9,8 +9,8 @@ ghost use Rattle.play_file.specs.Answers.{Names, Answers};
 
 use crate::draft::Draft;
 use crate::header::read_header;
-use plain_text::cut;
 use crate::{Play, PlayError};
+use plain_text::cut;
 use std::alloc::Global;
 
 /// The play whose text a file is: a header, error lines and action lines, each ended by a line feed.
