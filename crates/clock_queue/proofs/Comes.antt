@@ -1,7 +1,7 @@
 -- The test by rank and number, and what it says.
 use Rattle.std.proofs.Common.{◌≡◌, ◌⊎◌, ◌<◌, ◌≤◌, ℕ, Bool, true, false, ◌||◌, ◌&&◌, ltb, eqb, inl, inr, arith}
 use Rattle.std.proofs.lemmas.Bool.Decides.{nat_tests}
-use Rattle.std.proofs.lemmas.Bool.{cases_lt, false_from_ne_true, both_ways}
+use Rattle.std.proofs.lemmas.Bool.{cases_lt}
 
 -- x of rank r is before y of rank s
 abbrev pub comes : ℕ → ℕ → ℕ → ℕ → Bool

@@ -1,16 +1,15 @@
 -- What follows for a reader of a queue: no entry comes before the least, and a set keeps the better.
-use Rattle.std.proofs.Common.{◌≡◌, ◌≢◌, ◌⊎◌, ◌<◌, ◌≤◌, ◌+◌, ℕ, zero, suc, Bool, true, false, cond, eqb, List, [], ◌∷◌, length, get_or, set, Option, Some, None, IsSome, sym, refl, ap, ◌∙◌, subst, inl, inr, arith, get_or-set_same, get_or-set_other}
-use Rattle.std.proofs.lemmas.Bool.{cases_eq, cases_lt, both_ways}
-use Rattle.std.proofs.lemmas.Bool.Decides.{nat_tests}
+use Rattle.std.proofs.Common.{◌≡◌, ◌≢◌, ◌⊎◌, ◌<◌, ◌≤◌, ◌+◌, ℕ, zero, suc, Bool, true, false, cond, List, [], ◌∷◌, length, set, Option, Some, None, sym, refl, ap, ◌∙◌, subst, inl, inr, arith, get_or-set_same, get_or-set_other}
+use Rattle.std.proofs.lemmas.Bool.{cases_eq, cases_lt}
 use Rattle.std.specs.List.{Contains, slice_index}
 use Rattle.std.specs.List.Sorted.{IsStrictlyIncreasing}
-use Rattle.run_specs.specs.Order.{better_of, foremost}
-use Rattle.clock_queue.specs.Dues.{Pending, pending, due_of, least_pending, precedes, entries_at, NoneBefore}
+use Rattle.run_specs.specs.Order.{better_of}
+use Rattle.clock_queue.specs.Dues.{Pending, pending, due_of, least_pending, precedes, NoneBefore}
 use Rattle.clock_queue.specs.Order.{Among}
 use Rattle.clock_queue.proofs.Members.{IsRising, among_get_or}
 use Rattle.clock_queue.proofs.Comes.{comes_false, comes_over, comes_through}
 use Rattle.clock_queue.proofs.Best.{foremost_best, foremost_none, foremost_is}
-use Rattle.clock_queue.proofs.Dues.{some_within, pending_same, pending_due, due_pending, strict_order}
+use Rattle.clock_queue.proofs.Dues.{pending_same, pending_due, due_pending, strict_order}
 
 module _ {D : Type 0} (rank : D → ℕ) (dues : List (Option D)) where
   -- no set entry precedes the least

@@ -1,16 +1,16 @@
 -- A queue keeps its entries in order: what a set, a clear and a taking leave, and what stands in front.
-use Rattle.std.proofs.Common.{◌≡◌, ◌≢◌, ◌⊎◌, ◌<◌, ◌≤◌, ℕ, zero, suc, Bool, true, false, not, cond, eqb, List, [], ◌∷◌, length, get_or, set, replicate, map, take, drop, Option, Some, None, IsSome, sym, refl, ap, ◌∙◌, subst, inl, inr, arith, length-set, get_or-set_same, get_or-set_other}
+use Rattle.std.proofs.Common.{◌≡◌, ◌≢◌, ◌⊎◌, ◌<◌, ◌≤◌, ℕ, zero, suc, Bool, true, false, not, eqb, List, [], ◌∷◌, length, set, replicate, take, drop, Option, Some, None, IsSome, sym, refl, ap, ◌∙◌, subst, inl, inr, arith, length-set, get_or-set_same, get_or-set_other}
 use Rattle.std.proofs.lemmas.List.{length-map, length-replicate}
 use Rattle.std.proofs.lemmas.Bool.{cases_eq}
 use Rattle.std.proofs.lemmas.Bool.Decides.{nat_tests}
 use Rattle.std.specs.List.{filter, slice_get}
 use Rattle.std.specs.Option.{option_map_or}
 use Rattle.clock_queue.specs.Dues.{Pending, pending, due_of, least_pending, precedes, entries_at, due_unless, dues_behind, NoneBefore}
-use Rattle.clock_queue.specs.Order.{Among, IsKept, IsOrdered, before, inserted, without, rank_of, front_at, cleared}
-use Rattle.clock_queue.proofs.Members.{in_filter, filter_has, among_take, same_rising, length_below, differs, IsDistinct}
+use Rattle.clock_queue.specs.Order.{Among, IsKept, IsOrdered, inserted, without, rank_of, front_at, cleared}
+use Rattle.clock_queue.proofs.Members.{in_filter, filter_has, same_rising, length_below, differs, IsDistinct}
 use Rattle.clock_queue.proofs.Orders.{ordered_filter, in_inserted, inserted_has, ordered_inserted, distinct_ordered, rising_ordered, take_front, drop_front, ordered_alike}
 use Rattle.clock_queue.proofs.Best.{foremost_is}
-use Rattle.clock_queue.proofs.Dues.{set_within, some_within, same_dues, pending_same, pending_due, due_pending, in_entries_at, entries_at_has, rising_entries_at, due_behind, kept_due, other_kept, same_taken, length_cleared, cleared_at, others_cleared, clears_at, strict_order}
+use Rattle.clock_queue.proofs.Dues.{set_within, same_dues, pending_same, pending_due, due_pending, in_entries_at, entries_at_has, rising_entries_at, due_behind, kept_due, other_kept, same_taken, length_cleared, cleared_at, others_cleared, clears_at, strict_order}
 
 pub front_none : (order : List ℕ) → slice_get order 0 ≡ None → order ≡ []
 front_none [] e = refl

@@ -1,10 +1,10 @@
 -- Lists in the order of rank and number: what a filter, an insert and other ranks leave of it.
-use Rattle.std.proofs.Common.{◌≡◌, ◌⊎◌, ◌<◌, ◌≤◌, ℕ, zero, suc, Bool, true, false, not, cond, eqb, ltb, ◌||◌, ◌&&◌, List, [], ◌∷◌, length, take, drop, sym, refl, ap, ◌∙◌, subst, inl, inr, arith}
+use Rattle.std.proofs.Common.{◌≡◌, ◌⊎◌, ◌≤◌, ℕ, suc, Bool, true, false, not, cond, eqb, List, [], ◌∷◌, take, drop, sym, refl, ap, subst, inl, inr, arith}
 use Rattle.std.proofs.lemmas.Bool.Decides.{nat_tests}
 use Rattle.std.specs.List.{filter}
 use Rattle.clock_queue.specs.Order.{Among, IsOrdered, before, inserted, front_at}
 use Rattle.clock_queue.proofs.Members.{in_filter, filter_all, filter_none, IsRising, IsDistinct}
-use Rattle.clock_queue.proofs.Comes.{comes_true, comes_false, comes_over, comes_through}
+use Rattle.clock_queue.proofs.Comes.{comes_true, comes_over, comes_through}
 
 module _ (rank : ℕ → ℕ) where
   pub ordered_filter : (p : ℕ → Bool) (xs : List ℕ) → IsOrdered rank xs → IsOrdered rank (filter p xs)

@@ -1,4 +1,4 @@
-use Rattle.std.proofs.Common.{drop, sym, ap, ◌∙◌, vec_capacity}
+use Rattle.std.proofs.Common.{drop, sym, vec_capacity}
 use Rattle.clock_queue.proofs.Kept.{none_least, front_least, front_none, front_some}
 use Rattle.clock_queue.proofs.queue.Queue.least.Goals as goal
 
