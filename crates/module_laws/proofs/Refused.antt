@@ -1,0 +1,159 @@
+-- What is wrong in one thing breaks a law.
+use Rattle.std.proofs.Common.{◌≡◌, ℕ, ◌+◌, ◌<◌, Bool, true, false, cond, List, [], ◌∷◌, ◌++◌, take, Result, Err, refl, sym, ap, ◌∙◌, arith, inl, inr, append-nil}
+use Rattle.std.specs.Prelude.{nat_lt}
+use Rattle.std.proofs.lemmas.Bool.{ltb-true}
+use Rattle.std.proofs.lemmas.List.Elements.{All-nil, All-cons}
+use Rattle.leb_bytes.proofs.Spelled.{bytes_of_all}
+use Rattle.wasm_types.specs.Modules.{NestedModule}
+use Rattle.module_specs.specs.declared.fault.Fault.{Fault}
+use Rattle.module_specs.specs.declared.fault.Fault.TheVariants as fault
+use Rattle.module_specs.specs.Spelling.{Here}
+use Rattle.module_specs.specs.Fronts.{Begins}
+use Rattle.module_specs.specs.ModuleSpelling.{Section, Start, Funcs, start, empty, SpellsSection, SpellsModule}
+use Rattle.module_specs.specs.Reading.{byte_at, u32_at}
+use Rattle.module_specs.specs.ModuleReading.{section_at, module_read}
+use Rattle.module_specs.proofs.Places.{ok_is}
+use Rattle.module_specs.proofs.Sections.{section_again, section_here}
+use Rattle.module_specs.proofs.Modules.{module_again, module_here}
+use Rattle.module_laws.specs.Files.{AreBytes, IsFile, IsInside, IsBroken, HasBodies}
+use Rattle.module_laws.specs.Grammars.{SpellsOne}
+use Rattle.module_laws.specs.Readings.{GivesSpelled, RefusesUnspelled, FaultsLieInFile, FaultsStay}
+use Rattle.module_laws.specs.Cuts.{RefusesCuts, CutsAreCounted}
+use Rattle.module_laws.specs.Wrong as wrong
+use Rattle.module_laws.specs.Worked.{start_file, start_module, funcs_file, funcs_module, broken_file, nothing-is, start-is, start-section, start-8, funcs-is, funcs-section, funcs-12, broken-section, broken-is, broken-more}
+use Rattle.module_laws.proofs.Determined.{tell, clash}
+
+-- ---- the files are bytes
+
+abbrev are_small : List ℕ → Bool
+are_small [] = true
+are_small (x ∷ l) = cond (nat_lt x 256) (are_small l) false
+
+both : (s t : Bool) → cond s t false ≡ true → (s ≡ true) × (t ≡ true)
+both true t e = (refl, e)
+both false t e = absurd cc
+
+bytes_by : (l : List ℕ) → are_small l ≡ true → AreBytes l
+bytes_by [] e = All-nil (λ x. x < 256)
+bytes_by (x ∷ l) e = let s = both (nat_lt x 256) (are_small l) e in All-cons (λ x. x < 256) x l (ltb-true x 256 s.0) (bytes_by l s.1)
+
+nothing_bytes : AreBytes []
+nothing_bytes = bytes_by [] refl
+
+start_bytes : AreBytes start_file
+start_bytes = bytes_by start_file refl
+
+funcs_bytes : AreBytes funcs_file
+funcs_bytes = bytes_by funcs_file refl
+
+-- ---- what they spell
+
+start_spelled : SpellsModule start_module start_file
+start_spelled = module_here tell start_module start_file (bytes_of_all start_file start_bytes) start-is
+
+funcs_spelled : SpellsModule funcs_module funcs_file
+funcs_spelled = module_here tell funcs_module funcs_file (bytes_of_all funcs_file funcs_bytes) funcs-is
+
+header_spelled : SpellsModule empty (wrong.header start_file)
+header_spelled = module_here tell empty (wrong.header start_file) (bytes_of_all (wrong.header start_file) (bytes_by (wrong.header start_file) refl)) start-8
+
+differ : start_module ≡ empty → ⊥
+differ e = let starts : start_module.start ≡ empty.start = ap (λ (m : NestedModule). m.start) e in absurd cc
+
+-- ---- grammars
+
+pub front-refused : SpellsOne wrong.SpellsFront → ⊥
+front-refused h = differ (h start_module empty start_file (11, start_spelled) (8, header_spelled))
+
+-- ---- readings
+
+pub header-refused : GivesSpelled wrong.header_alone → ⊥
+header-refused h = differ (ok_is start_module empty (sym ((h start_module start_file start_bytes).1 start_spelled) ∙ start-8))
+
+no_module : (m : NestedModule) → SpellsModule m [] → ⊥
+no_module m s = clash (module_read []) (fault.Magic 0) m nothing-is (module_again tell m [] s)
+
+pub never-refused : RefusesUnspelled wrong.never_refused → ⊥
+never-refused h =
+    let r = (h [] nothing_bytes).1 no_module in
+    clash (wrong.never_refused []) r.0 empty r.1 (ap wrong.or_nothing nothing-is)
+
+pub past-refused : FaultsLieInFile wrong.past_the_end → ⊥
+past-refused h =
+    elim (h [] (fault.Form 1) (ap (wrong.at_place 1) nothing-is)) [
+      | inl within ↦ absurd (omega (arith, within))
+      | inr past ↦ let same : fault.Form 1 ≡ fault.Short (past.2 + past.1) = past.5 in absurd cc
+    ]
+
+-- the header alone, and no sections
+begins_none : (rest : List ℕ) → Begins (wrong.header start_file ++ rest) [] 8
+begins_none rest = record {
+  header = record { whole = refl; size = refl; within = omega arith };
+  text = [];
+  here = record { whole = refl; size = refl; within = omega arith };
+  spelled = refl;
+}
+
+broken : IsBroken (broken_file []) 10
+unfolding byte_at u32_at
+broken = record {
+  sections = [];
+  at = 8;
+  before = begins_none (8 ∷ 0 ∷ []);
+  states = record { id = 8; size = 0; next = 10; id_is = refl; size_is = refl; end_is = refl };
+  inside = omega arith;
+  unspelled = unspelled;
+}
+  where
+    unspelled : (x : Section) (text : List ℕ) (next : ℕ) → Here (broken_file []) 8 text next → SpellsSection start x text → ⊥
+    unspelled x text next h s = clash (section_at start (broken_file []) 8) (fault.Short 10) (x, next) broken-section (section_again tell start (broken_file []) 8 next x text s h)
+
+pub end-refused : FaultsStay wrong.at_the_end → ⊥
+end-refused h = absurd (differs (sym other ∙ stays))
+  where
+    one : List ℕ
+    one = broken_file []
+
+    two : List ℕ
+    two = broken_file (0 ∷ [])
+
+    one_file : IsFile one
+    one_file = record { bytes = bytes_by one refl; small = omega arith }
+
+    two_file : IsFile two
+    two_file = record { bytes = bytes_by two refl; small = omega arith }
+
+    stays : wrong.at_the_end two ≡ Err (fault.Form 10)
+    stays = h one two 10 (fault.Form 10) one_file two_file broken (record { in_first = omega arith; in_second = omega arith; same = refl }) (ap (wrong.at_place 10) broken-is)
+
+    other : wrong.at_the_end two ≡ Err (fault.Form 11)
+    other = ap (wrong.at_place 11) broken-more
+
+    differs : (let r : Result NestedModule Fault = Err (fault.Form 11) in r ≡ Err (fault.Form 10)) → ⊥
+    differs e = absurd cc
+
+-- ---- cuts
+
+in_start : IsInside start_file 10
+in_start =
+    let x = section_here tell start start_file (bytes_of_all start_file start_bytes) 8 11 (Start 5) start-section in
+    inr (record { sections = []; at = 8; before = begins_none (8 ∷ 1 ∷ 5 ∷ []); section = Start 5; text = x.0; next = 11; here = x.1; spelled = x.3; begun = omega arith; unfinished = omega arith })
+
+pub cut-refused : RefusesCuts wrong.header_alone → ⊥
+cut-refused h =
+    let r = h start_module start_file 10 start_bytes start_spelled in_start in
+    clash (wrong.header_alone start_file) r.0 empty r.1 start-8
+
+begins_funcs : Begins funcs_file (Funcs (0 ∷ []) ∷ []) 12
+begins_funcs =
+    let x = section_here tell start funcs_file (bytes_of_all funcs_file funcs_bytes) 8 12 (Funcs (0 ∷ [])) funcs-section in
+    let none = begins_none (3 ∷ 2 ∷ 1 ∷ 0 ∷ 10 ∷ 4 ∷ 1 ∷ 2 ∷ 0 ∷ 0x0B ∷ []) in
+    record { header = none.header; text = x.0; here = x.1; spelled = (x.0, [], sym (append-nil x.0), x.3, refl) }
+
+no_body : HasBodies (Funcs (0 ∷ []) ∷ []) → ⊥
+no_body e = absurd (omega (arith, e))
+
+pub count-refused : CutsAreCounted wrong.uncounted → ⊥
+count-refused h =
+    let r = h funcs_module funcs_file 12 (Funcs (0 ∷ []) ∷ []) funcs_bytes funcs_spelled begins_funcs no_body in
+    clash (wrong.uncounted (take 12 funcs_file)) (fault.Count 12) empty r (ap wrong.without_count funcs-12)

@@ -1,0 +1,20 @@
+use Rattle.module_laws.proofs.Refused.{header-refused, never-refused, past-refused, end-refused, cut-refused, count-refused}
+use Rattle.module_laws.proofs.wrong.wrong_readings_are_refused.Goals as goal
+
+pub returns-clause-header_alone : goal.returns-clause-header_alone
+returns-clause-header_alone c = header-refused
+
+pub returns-clause-never_refused : goal.returns-clause-never_refused
+returns-clause-never_refused c = never-refused
+
+pub returns-clause-past_the_end : goal.returns-clause-past_the_end
+returns-clause-past_the_end c = past-refused
+
+pub returns-clause-at_the_end : goal.returns-clause-at_the_end
+returns-clause-at_the_end c = end-refused
+
+pub returns-clause-cut_accepted : goal.returns-clause-cut_accepted
+returns-clause-cut_accepted c = cut-refused
+
+pub returns-clause-uncounted : goal.returns-clause-uncounted
+returns-clause-uncounted c = count-refused
