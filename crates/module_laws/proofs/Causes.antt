@@ -2,20 +2,21 @@
 use Rattle.std.proofs.Common.{◌≡◌, ℕ, zero, suc, ◌<◌, ◌≤◌, Bool, true, false, not, cond, List, [], ◌∷◌, ◌++◌, length, take, drop, Result, Ok, Err, refl, sym, ap, subst, ◌∙◌, arith, inl, inr}
 use Rattle.std.specs.Prelude.{nat_lt, bytes_eq, ◌⊎◌}
 use Rattle.std.proofs.lemmas.Bool.{ltb-true, eq-eqb}
-use Rattle.std.proofs.lemmas.List.{take-append-drop, drop-drop}
+use Rattle.std.proofs.lemmas.List.{take-append-drop, drop-drop, length-take}
 use Rattle.leb_bytes.proofs.Spelled.{IsBytes, bytes_of_all}
 use Rattle.wasm_types.specs.Modules.{NestedModule}
 use Rattle.module_specs.specs.declared.fault.Fault.{Fault}
 use Rattle.module_specs.specs.declared.fault.Fault.TheVariants as fault
 use Rattle.module_specs.specs.Spelling.{Here}
 use Rattle.module_specs.specs.Fronts.{after_all}
-use Rattle.module_specs.specs.ModuleSpelling.{Section, Before, start, after, SpellsSection, SpellsSections, magic, version, most_bytes, module_of, declared}
+use Rattle.module_specs.specs.ModuleSpelling.{Section, Before, start, after, SpellsSections, magic, version, most_bytes, module_of, declared}
 use Rattle.module_specs.specs.Reading.{Read, ◌>>=◌, refuse_if}
 use Rattle.module_specs.specs.ModuleReading.{section_at, sections_at, with_section, lacks_bodies, rest_at, differs, module_read}
+use Rattle.module_specs.specs.Faults.{IsIn}
 use Rattle.module_specs.proofs.Places.{nothing_here, here_second, here_join}
 use Rattle.module_specs.proofs.Sections.{section_again, section_here, sections_here, sections_then}
 use Rattle.module_specs.proofs.Modules.{same_bytes}
-use Rattle.module_laws.specs.Files.{IsFile, IsStuck, HasBodies, LacksBodies}
+use Rattle.module_laws.specs.Files.{IsStuck, HasBodies, LacksBodies}
 use Rattle.module_laws.specs.Readings.{IsHeadless, RefusalsHaveCauses}
 use Rattle.module_laws.proofs.Determined.{tell, clash}
 
@@ -92,32 +93,30 @@ module _ (b : List ℕ) (fits : IsBytes b) (e : Fault) where
 
 -- ---- the file
 
-module _ (b : List ℕ) (e : Fault) (file : IsFile b) where
-  fits : IsBytes b
-  fits = bytes_of_all b file.bytes
+-- a fault of the header, which lies in the file
+pub record OfHeader (b : List ℕ) (e : Fault) : Type 0 where
+  pub headless : IsHeadless b e
+  pub inside : IsIn (length b) e
 
-  abbrev Cause : Type 0
-  Cause = IsHeadless b e ⊎ (IsStuck b ⊎ (LacksBodies b × (e ≡ fault.Count (length b))))
+-- a fault of the first section that can't be read
+pub record OfSection (b : List ℕ) (e : Fault) : Type 0 where
+  pub header : Here b 0 (magic ++ version) 8
+  pub failing : FailsAt b start 8 e
 
+-- where a fault comes from
+abbrev pub Cause : List ℕ → Fault → Type 0
+Cause b e =
+    ((most_bytes < length b) × (e ≡ fault.Size most_bytes))
+    ⊎ (OfHeader b e ⊎ (OfSection b e ⊎ (LacksBodies b × (e ≡ fault.Count (length b)))))
+
+module _ (b : List ℕ) (e : Fault) (fits : IsBytes b) where
   abbrev counted_then : List Section × ℕ → Result NestedModule Fault
   counted_then xs = refuse_if (lacks_bodies xs.0) (fault.Count (length b)) >>= λ fine. Ok (module_of xs.0)
 
-  behind : Here b 0 (magic ++ version) 8 → rest_at b 8 ≡ Err e → Cause
+  behind : Here b 0 (magic ++ version) 8 → rest_at b 8 ≡ Err e → OfSection b e ⊎ (LacksBodies b × (e ≡ fault.Count (length b)))
   unfolding rest_at
   behind header h = by_read (sections_at (length b) start b 8) refl h
     where
-      stuck : FailsAt b start 8 e → IsStuck b
-      stuck f = record {
-        sections = f.sections;
-        at = f.at;
-        before = record { header = header; text = f.text; here = f.here; spelled = f.spelled };
-        more = f.more;
-        unspelled = λ x text next k t. unspelled f x text next k t;
-      }
-        where
-          unspelled : (f : FailsAt b start 8 e) (x : Section) (text : List ℕ) (next : ℕ) → Here b f.at text next → SpellsSection (after_all f.sections start) x text → ⊥
-          unspelled f x text next k t = clash (section_at (after_all f.sections start) b f.at) e (x, next) f.fails (section_again tell (after_all f.sections start) b f.at next x text t k)
-
       lacks : (xs : List Section) → lacks_bodies xs ≡ true → HasBodies xs → ⊥
       lacks xs is bodies = let right : lacks_bodies xs ≡ false = ap not (eq-eqb (length (module_of xs).funcs) (length (declared xs [])) bodies) in absurd cc
 
@@ -133,30 +132,53 @@ module _ (b : List ℕ) (e : Fault) (file : IsFile b) where
       no_module : (m : NestedModule) → (let r : Result NestedModule Fault = Ok m in r ≡ Err e) → ⊥
       no_module m h = absurd cc
 
-      by_read : (r : Read (List Section)) → sections_at (length b) start b 8 ≡ r → r >>= counted_then ≡ Err e → Cause
-      by_read (Err d) is h = let same : d ≡ e = cc in inr (inl (stuck (fails b fits e (length b) start 8 header.within (subst (λ (d : Fault). sections_at (length b) start b 8 ≡ Err d) same is))))
+      by_read : (r : Read (List Section)) → sections_at (length b) start b 8 ≡ r → r >>= counted_then ≡ Err e → OfSection b e ⊎ (LacksBodies b × (e ≡ fault.Count (length b)))
+      by_read (Err d) is h =
+          let same : d ≡ e = cc in
+          inl (record { header = header; failing = fails b fits e (length b) start 8 header.within (subst (λ (d : Fault). sections_at (length b) start b 8 ≡ Err d) same is) })
       by_read (Ok xs) is h =
           elim (refused_or (lacks_bodies xs.0) (fault.Count (length b)) e (λ fine. Ok (module_of xs.0)) h) [
-            | inl x ↦ inr (inr (whole xs is x.0, sym x.1))
+            | inl x ↦ inr (whole xs is x.0, sym x.1)
             | inr y ↦ absurd (no_module (module_of xs.0) y.1)
           ]
 
-pub causes : RefusalsHaveCauses module_read
-unfolding module_read
-causes b e file h =
-    elim (refused_or (nat_lt most_bytes (length b)) (fault.Size most_bytes) e (λ small. first_then) h) [
-      | inl x ↦ let over : most_bytes < length b = ltb-true _ _ x.0 in absurd (omega (arith, file.small))
-      | inr small ↦ elim (refused_or (differs b 0 magic) (fault.Magic 0) e (λ wasm. second_then) small.1) [
-        | inl x ↦ inl (record { unspelled = no_magic b x.0; of_header = inl (sym x.1) })
-        | inr wasm ↦ elim (refused_or (differs b 4 version) (fault.Version 4) e (λ first. rest_at b 8) wasm.1) [
-          | inl x ↦ inl (record { unspelled = no_version b x.0; of_header = inr (sym x.1) })
-          | inr first ↦ behind b e file (header_here b wasm.0 first.0) first.1
+  pub cause : module_read b ≡ Err e → Cause b e
+  unfolding module_read
+  cause h =
+      elim (refused_or (nat_lt most_bytes (length b)) (fault.Size most_bytes) e (λ small. first_then) h) [
+        | inl x ↦ let over : most_bytes < length b = ltb-true _ _ x.0 in inl (over, sym x.1)
+        | inr small ↦ elim (refused_or (differs b 0 magic) (fault.Magic 0) e (λ wasm. second_then) small.1) [
+          | inl x ↦ inr (inl (record { headless = record { unspelled = no_magic b x.0; of_header = inl (sym x.1) }; inside = subst (IsIn (length b)) x.1 (omega arith) }))
+          | inr wasm ↦
+              let four : 4 ≤ length b = omega (arith, ap length (same_bytes b 0 magic wasm.0), length-take 4 (drop 0 b)) in
+              elim (refused_or (differs b 4 version) (fault.Version 4) e (λ first. rest_at b 8) wasm.1) [
+                | inl x ↦ inr (inl (record { headless = record { unspelled = no_version b x.0; of_header = inr (sym x.1) }; inside = subst (IsIn (length b)) x.1 four }))
+                | inr first ↦ inr (inr (behind (header_here b wasm.0 first.0) first.1))
+              ]
         ]
       ]
-    ]
-  where
-    second_then : Result NestedModule Fault
-    second_then = refuse_if (differs b 4 version) (fault.Version 4) >>= λ first. rest_at b 8
+    where
+      second_then : Result NestedModule Fault
+      second_then = refuse_if (differs b 4 version) (fault.Version 4) >>= λ first. rest_at b 8
 
-    first_then : Result NestedModule Fault
-    first_then = refuse_if (differs b 0 magic) (fault.Magic 0) >>= λ wasm. second_then
+      first_then : Result NestedModule Fault
+      first_then = refuse_if (differs b 0 magic) (fault.Magic 0) >>= λ wasm. second_then
+
+-- as the law says it
+pub causes : RefusalsHaveCauses module_read
+causes b e file h = by_cause (cause b e (bytes_of_all b file.bytes) h)
+  where
+    stuck : OfSection b e → IsStuck b
+    stuck o = let f = o.failing in record {
+      sections = f.sections;
+      at = f.at;
+      before = record { header = o.header; text = f.text; here = f.here; spelled = f.spelled };
+      more = f.more;
+      unspelled = λ x text next k t. clash (section_at (after_all f.sections start) b f.at) e (x, next) f.fails (section_again tell (after_all f.sections start) b f.at next x text t k);
+    }
+
+    by_cause : Cause b e → IsHeadless b e ⊎ (IsStuck b ⊎ (LacksBodies b × (e ≡ fault.Count (length b))))
+    by_cause (inl x) = absurd (omega (arith, file.small, x.0))
+    by_cause (inr (inl o)) = inl o.headless
+    by_cause (inr (inr (inl o))) = inr (inl (stuck o))
+    by_cause (inr (inr (inr x))) = inr (inr x)

@@ -1,23 +1,25 @@
 -- What is wrong in one thing breaks a law.
-use Rattle.std.proofs.Common.{◌≡◌, ℕ, ◌+◌, ◌<◌, Bool, true, false, cond, List, [], ◌∷◌, ◌++◌, take, Result, Err, refl, sym, ap, ◌∙◌, arith, inl, inr, append-nil}
+use Rattle.std.proofs.Common.{◌≡◌, ℕ, ◌<◌, Bool, true, false, cond, List, [], ◌∷◌, ◌++◌, take, Result, Err, refl, sym, ap, ◌∙◌, arith, inl, inr, append-nil}
 use Rattle.std.specs.Prelude.{nat_lt}
 use Rattle.std.proofs.lemmas.Bool.{ltb-true}
 use Rattle.std.proofs.lemmas.List.Elements.{All-nil, All-cons}
+use Rattle.std.specs.Str.{is_utf8, chars}
+use Rattle.std.proofs.lemmas.Str.{IsUtf8-from_is_utf8}
 use Rattle.leb_bytes.proofs.Spelled.{bytes_of_all}
 use Rattle.wasm_types.specs.Modules.{NestedModule}
 use Rattle.module_specs.specs.declared.fault.Fault.{Fault}
 use Rattle.module_specs.specs.declared.fault.Fault.TheVariants as fault
 use Rattle.module_specs.specs.Spelling.{Here}
 use Rattle.module_specs.specs.Fronts.{Begins}
-use Rattle.module_specs.specs.ModuleSpelling.{Section, Start, Funcs, start, empty, SpellsSection, SpellsModule}
+use Rattle.module_specs.specs.ModuleSpelling.{Section, Custom, Start, Funcs, start, empty, SpellsSection, SpellsModule}
 use Rattle.module_specs.specs.Reading.{byte_at, u32_at}
 use Rattle.module_specs.specs.ModuleReading.{section_at, module_read}
 use Rattle.module_specs.proofs.Places.{ok_is}
 use Rattle.module_specs.proofs.Sections.{section_again, section_here}
 use Rattle.module_specs.proofs.Modules.{module_again, module_here}
-use Rattle.module_laws.specs.Files.{AreBytes, IsFile, IsInside, IsBroken, HasBodies}
-use Rattle.module_laws.specs.Grammars.{SpellsOne}
-use Rattle.module_laws.specs.Readings.{GivesSpelled, RefusesUnspelled, FaultsLieInFile, FaultsStay}
+use Rattle.module_laws.specs.Files.{IsFront, AreBytes, IsFile, IsInside, IsBroken, HasBodies}
+use Rattle.module_laws.specs.Grammars.{SpellsOne, IgnoresCustom}
+use Rattle.module_laws.specs.Readings.{GivesSpelled, RefusesUnspelled, FaultsLieInFile, FaultsAreOfBytes, FaultsStay}
 use Rattle.module_laws.specs.Cuts.{RefusesCuts, CutsAreCounted}
 use Rattle.module_laws.specs.Wrong as wrong
 use Rattle.module_laws.specs.Worked.{start_file, start_module, funcs_file, funcs_module, broken_file, nothing-is, start-is, start-section, start-8, funcs-is, funcs-section, funcs-12, broken-section, broken-is, broken-more}
@@ -65,6 +67,20 @@ differ e = let starts : start_module.start ≡ empty.start = ap (λ (m : NestedM
 pub front-refused : SpellsOne wrong.SpellsFront → ⊥
 front-refused h = differ (h start_module empty start_file (11, start_spelled) (8, header_spelled))
 
+-- the header alone
+front_of_start : IsFront (wrong.header start_file)
+front_of_start = record { sections = []; rest = []; whole = refl; spelled = refl }
+
+-- its name has no byte, and nothing follows it
+custom_spelled : SpellsSection start Custom (0 ∷ 1 ∷ 0 ∷ [])
+unfolding is_utf8 chars
+custom_spelled = (tt, (1 ∷ 0 ∷ [], refl, (1 ∷ [], 0 ∷ [], refl, (omega arith, omega arith, refl), ([], (0 ∷ [], [], refl, (IsUtf8-from_is_utf8 [] refl, (0 ∷ [], [], refl, (omega arith, omega arith, refl), refl)), tt)))))
+
+pub unmarked-refused : IgnoresCustom wrong.SpellsUnmarked → ⊥
+unmarked-refused h =
+    let r = (h start_module (wrong.header start_file) (0 ∷ 1 ∷ 0 ∷ []) (8 ∷ 1 ∷ 5 ∷ []) front_of_start custom_spelled (omega arith)).0 (start_spelled, λ e. absurd (omega (arith, e))) in
+    r.1 refl
+
 -- ---- readings
 
 pub header-refused : GivesSpelled wrong.header_alone → ⊥
@@ -80,10 +96,13 @@ never-refused h =
 
 pub past-refused : FaultsLieInFile wrong.past_the_end → ⊥
 past-refused h =
-    elim (h [] (fault.Form 1) (ap (wrong.at_place 1) nothing-is)) [
+    elim (h [] (fault.Form 1) nothing_bytes (ap (wrong.at_place 1) nothing-is)) [
       | inl within ↦ absurd (omega (arith, within))
-      | inr past ↦ let same : fault.Form 1 ≡ fault.Short (past.2 + past.1) = past.5 in absurd cc
+      | inr past ↦ let same : fault.Form 1 ≡ fault.Short past.0 = past.2 in absurd cc
     ]
+
+pub never-read-refused : FaultsAreOfBytes wrong.never_read → ⊥
+never-read-refused h = h [] fault.Memory nothing_bytes refl
 
 -- the header alone, and no sections
 begins_none : (rest : List ℕ) → Begins (wrong.header start_file ++ rest) [] 8

@@ -56,6 +56,14 @@ pub record IsBroken (b : List ℕ) (stop : ℕ) : Type 0 where
   pub inside : stop ≤ length b
   pub unspelled : (x : Section) (text : List ℕ) (next : ℕ) → Here b at text next → SpellsSection (after_all sections start) x text → ⊥
 
+-- Behind sections that are spelled stands an id and a size that leads past the end of the file, to this end.
+pub record IsOverlong (b : List ℕ) (stop : ℕ) : Type 0 where
+  pub sections : List Section
+  pub at : ℕ
+  pub before : Begins b sections at
+  pub states : StatesEnd b at stop
+  pub past : length b < stop
+
 -- Behind the header, or behind sections that are spelled, something stands, but no section is spelled there.
 pub record IsStuck (b : List ℕ) : Type 0 where
   pub sections : List Section

@@ -2,11 +2,11 @@
 use Rattle.std.specs.Prelude.{◌≡◌, ◌↔◌, ◌⊎◌, ℕ, List, ◌++◌, length, Result, Ok, Err}
 use Rattle.wasm_types.specs.Modules.{NestedModule}
 use Rattle.module_specs.specs.declared.fault.Fault.{Fault}
-use Rattle.module_specs.specs.declared.fault.Fault.TheVariants.{Magic, Version, Count}
+use Rattle.module_specs.specs.declared.fault.Fault.TheVariants.{Short, Magic, Version, Count, Memory}
 use Rattle.module_specs.specs.Spelling.{Here}
 use Rattle.module_specs.specs.ModuleSpelling.{SpellsModule, magic, version}
-use Rattle.module_specs.specs.Faults.{IsIn, LeadsPast}
-use Rattle.module_laws.specs.Files.{AreBytes, IsFile, AgreeUpTo, IsBroken, IsStuck, LacksBodies}
+use Rattle.module_specs.specs.Faults.{IsIn}
+use Rattle.module_laws.specs.Files.{AreBytes, IsFile, AgreeUpTo, IsBroken, IsOverlong, IsStuck, LacksBodies}
 
 -- It gives the module that the bytes spell, and no other.
 abbrev pub GivesSpelled : (List ℕ → Result NestedModule Fault) → Type 0
@@ -28,9 +28,19 @@ abbrev pub RefusalsHaveCauses : (List ℕ → Result NestedModule Fault) → Typ
 RefusalsHaveCauses read =
     (b : List ℕ) (e : Fault) → IsFile b → read b ≡ Err e → IsHeadless b e ⊎ (IsStuck b ⊎ (LacksBodies b × (e ≡ Count (length b))))
 
--- A fault lies in the file or at its end, or a size leads past the file, and the fault is Short at the end that it states.
+-- A fault lies in the file or at its end, or a section's size leads past the file, and the fault is Short at the end that it states.
 abbrev pub FaultsLieInFile : (List ℕ → Result NestedModule Fault) → Type 0
-FaultsLieInFile read = (b : List ℕ) (e : Fault) → read b ≡ Err e → IsIn (length b) e ⊎ LeadsPast b e
+FaultsLieInFile read =
+    (b : List ℕ) (e : Fault) → AreBytes b → read b ≡ Err e → IsIn (length b) e ⊎ ((stop : ℕ) × IsOverlong b stop × (e ≡ Short stop))
+
+-- it is a fault of the bytes, and not want of memory
+abbrev pub IsOfBytes : Fault → Type 0
+IsOfBytes Memory = ⊥
+IsOfBytes e = Unit {0}
+
+-- Want of memory is no fault of a file.
+abbrev pub FaultsAreOfBytes : (List ℕ → Result NestedModule Fault) → Type 0
+FaultsAreOfBytes read = (b : List ℕ) (e : Fault) → AreBytes b → read b ≡ Err e → IsOfBytes e
 
 -- The fault of a file with a broken section is that of every file with the same bytes up to the end that this section states.
 abbrev pub FaultsStay : (List ℕ → Result NestedModule Fault) → Type 0

@@ -1,5 +1,5 @@
 -- Grammars and readings that are wrong in one thing.
-use Rattle.std.specs.Prelude.{ℕ, ◌+◌, List, length, take, Result, Ok, Err}
+use Rattle.std.specs.Prelude.{◌≡◌, ℕ, ◌+◌, List, length, get_or, take, Result, Ok, Err}
 use Rattle.wasm_types.specs.Modules.{NestedModule}
 use Rattle.module_specs.specs.declared.fault.Fault.{Fault}
 use Rattle.module_specs.specs.declared.fault.Fault.TheVariants as fault
@@ -9,6 +9,10 @@ use Rattle.module_specs.specs.ModuleReading.{module_read}
 -- anything may stand behind a module
 abbrev pub SpellsFront : NestedModule → List ℕ → Type 0
 SpellsFront m b = (place : ℕ) × SpellsModule m (take place b)
+
+-- a custom section right behind the header is refused
+abbrev pub SpellsUnmarked : NestedModule → List ℕ → Type 0
+SpellsUnmarked m b = SpellsModule m b × (get_or b 8 1 ≡ 0 → ⊥)
 
 -- the header of a file
 abbrev pub header : List ℕ → List ℕ
@@ -47,3 +51,7 @@ without_count (Err e) = Err e
 
 abbrev pub uncounted : List ℕ → Result NestedModule Fault
 uncounted b = without_count (module_read b)
+
+-- memory always runs out
+abbrev pub never_read : List ℕ → Result NestedModule Fault
+never_read b = Err fault.Memory

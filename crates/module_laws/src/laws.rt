@@ -2,7 +2,7 @@
 ghost use Rattle.module_specs.specs.ModuleSpelling.{SpellsModule};
 ghost use Rattle.module_specs.specs.ModuleReading.{module_read};
 ghost use Rattle.module_laws.specs.Grammars.{SpellsOne, IgnoresCustom};
-ghost use Rattle.module_laws.specs.Readings.{GivesSpelled, RefusesUnspelled, RefusalsHaveCauses, FaultsLieInFile, FaultsStay};
+ghost use Rattle.module_laws.specs.Readings.{GivesSpelled, RefusesUnspelled, RefusalsHaveCauses, FaultsLieInFile, FaultsAreOfBytes, FaultsStay};
 ghost use Rattle.module_laws.specs.Cuts.{EachPlace, RefusesCuts, CutsAreModules, CutsAreCounted};
 
 /// Two modules with one spelling are one.
@@ -24,9 +24,12 @@ pub fn reading_is_exact()
     ensures causes { RefusalsHaveCauses module_read }
 {}
 
-/// The first fault of a file lies in the file or at its end, but for a size that leads past the file.
+/// The first fault of a file lies in the file or at its end, but for a section's size that leads past the file.
 pub fn faults_lie_in_their_file()
     ensures place { FaultsLieInFile module_read }
+
+    // It is a fault of the bytes: want of memory is none.
+    ensures of_bytes { FaultsAreOfBytes module_read }
 {}
 
 /// A fault of a section whose stated end lies in the file doesn't change with what stands behind that end.

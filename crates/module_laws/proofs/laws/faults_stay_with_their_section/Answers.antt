@@ -1,4 +1,4 @@
-use Rattle.module_laws.proofs.Lying.{stay}
+use Rattle.module_laws.proofs.Staying.{stay}
 use Rattle.module_laws.proofs.laws.faults_stay_with_their_section.Goals as goal
 
 pub returns : goal.returns

@@ -1,5 +1,8 @@
-use Rattle.module_laws.proofs.Refused.{front-refused}
+use Rattle.module_laws.proofs.Refused.{front-refused, unmarked-refused}
 use Rattle.module_laws.proofs.wrong.wrong_grammars_are_refused.Goals as goal
 
-pub returns : goal.returns
-returns c = record { more_behind = front-refused }
+pub returns-clause-more_behind : goal.returns-clause-more_behind
+returns-clause-more_behind c = front-refused
+
+pub returns-clause-unmarked : goal.returns-clause-unmarked
+returns-clause-unmarked c = unmarked-refused

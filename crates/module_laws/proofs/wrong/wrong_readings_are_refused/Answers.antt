@@ -1,4 +1,4 @@
-use Rattle.module_laws.proofs.Refused.{header-refused, never-refused, past-refused, end-refused, cut-refused, count-refused}
+use Rattle.module_laws.proofs.Refused.{never-read-refused, header-refused, never-refused, past-refused, end-refused, cut-refused, count-refused}
 use Rattle.module_laws.proofs.wrong.wrong_readings_are_refused.Goals as goal
 
 pub returns-clause-header_alone : goal.returns-clause-header_alone
@@ -18,3 +18,6 @@ returns-clause-cut_accepted c = cut-refused
 
 pub returns-clause-uncounted : goal.returns-clause-uncounted
 returns-clause-uncounted c = count-refused
+
+pub returns-clause-never_read : goal.returns-clause-never_read
+returns-clause-never_read c = never-read-refused

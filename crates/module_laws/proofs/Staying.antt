@@ -1,32 +1,14 @@
--- Where faults lie, and that they stay.
-use Rattle.std.proofs.Common.{◌≡◌, ℕ, Ok, Err, refl, sym, ◌∙◌}
+-- Faults stay with their section.
+use Rattle.std.proofs.Common.{◌≡◌, Ok, Err, refl, sym, ◌∙◌}
 use Rattle.leb_bytes.proofs.Spelled.{IsBytes, bytes_of_all}
-use Rattle.wasm_types.specs.Modules.{NestedFunc}
 use Rattle.module_specs.specs.ModuleSpelling.{Section, Before, start}
 use Rattle.module_specs.specs.Fronts.{after_all}
 use Rattle.module_specs.specs.Reading.{Read}
-use Rattle.module_specs.specs.CodeReading.{body_at}
 use Rattle.module_specs.specs.ModuleReading.{section_at, module_read}
-use Rattle.module_specs.specs.Faults.{IsIn}
-use Rattle.module_specs.proofs.Within.{Fine, Stays}
 use Rattle.module_specs.proofs.Sections.{section_here}
-use Rattle.module_specs.proofs.FileFaults.{fault_lies}
 use Rattle.module_specs.proofs.Cuts.{same_fault}
-use Rattle.wasm_code.specs.Faults.{InBody}
-use Rattle.wasm_code.proofs.Within.{body_stays}
-use Rattle.module_laws.specs.Readings.{FaultsLieInFile, FaultsStay}
+use Rattle.module_laws.specs.Readings.{FaultsStay}
 use Rattle.module_laws.proofs.Determined.{tell}
-
--- a fault of a body lies in its section
-bodies_stay : (ty : ℕ) → Stays IsIn (body_at ty)
-bodies_stay ty b at le = by_read (body_at ty b at) (body_stays ty b at le)
-  where
-    by_read : (r : Read NestedFunc) → Fine InBody b at r → Fine IsIn b at r
-    by_read (Ok x) f = f
-    by_read (Err e) f = f.1
-
-pub lie : FaultsLieInFile module_read
-lie b e h = fault_lies bodies_stay b e h
 
 pub stay : FaultsStay module_read
 stay b c stop e file other broken agree h = by_section (section_at s b broken.at) refl
