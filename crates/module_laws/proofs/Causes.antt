@@ -1,24 +1,26 @@
 -- Why a file is refused.
-use Rattle.std.proofs.Common.{◌≡◌, ℕ, zero, suc, ◌<◌, ◌≤◌, Bool, true, false, not, cond, List, [], ◌∷◌, ◌++◌, length, take, drop, Result, Ok, Err, refl, sym, ap, subst, ◌∙◌, arith, inl, inr}
+use Rattle.std.proofs.Common.{◌≡◌, ℕ, ◌+◌, zero, suc, ◌<◌, ◌≤◌, Bool, true, false, not, cond, List, [], ◌∷◌, ◌++◌, length, take, drop, Result, Ok, Err, refl, sym, ap, subst, ◌∙◌, arith, inl, inr}
 use Rattle.std.specs.Prelude.{nat_lt, bytes_eq, ◌⊎◌}
 use Rattle.std.proofs.lemmas.Bool.{ltb-true, eq-eqb}
-use Rattle.std.proofs.lemmas.List.{take-append-drop, drop-drop, length-take}
+use Rattle.std.proofs.lemmas.List.{take_all, take-append-drop, drop-drop, length-take}
 use Rattle.leb_bytes.proofs.Spelled.{IsBytes, bytes_of_all}
 use Rattle.wasm_types.specs.Modules.{NestedModule}
 use Rattle.module_specs.specs.declared.fault.Fault.{Fault}
 use Rattle.module_specs.specs.declared.fault.Fault.TheVariants as fault
 use Rattle.module_specs.specs.Spelling.{Here}
 use Rattle.module_specs.specs.Fronts.{after_all}
-use Rattle.module_specs.specs.ModuleSpelling.{Section, Before, start, after, SpellsSections, magic, version, most_bytes, module_of, declared}
+use Rattle.module_specs.specs.ModuleSpelling.{Section, Before, start, after, SpellsSections, SpellsModule, magic, version, most_bytes, module_of, declared}
 use Rattle.module_specs.specs.Reading.{Read, ◌>>=◌, refuse_if}
 use Rattle.module_specs.specs.ModuleReading.{section_at, sections_at, with_section, lacks_bodies, rest_at, differs, module_read}
 use Rattle.module_specs.specs.Faults.{IsIn}
-use Rattle.module_specs.proofs.Places.{nothing_here, here_second, here_join}
+use Rattle.module_specs.proofs.Places.{nothing_here, here_first, here_second, here_join, same_text}
 use Rattle.module_specs.proofs.Sections.{section_again, section_here, sections_here, sections_then}
 use Rattle.module_specs.proofs.Modules.{same_bytes}
-use Rattle.module_laws.specs.Files.{IsStuck, HasBodies, LacksBodies}
+use Rattle.module_laws.specs.Files.{IsStuck, HasBodies, LacksBodies, HasCause}
+use Rattle.module_laws.specs.Grammars.{SpellsUnlessCause}
 use Rattle.module_laws.specs.Readings.{IsHeadless, RefusalsHaveCauses}
-use Rattle.module_laws.proofs.Determined.{tell, clash}
+use Rattle.module_laws.proofs.Determined.{tell, clash, GoesOn, goes_on, Filled, all_begins, front_is, begins_whole, same_sections}
+use Rattle.module_laws.proofs.Exact.{refuses}
 
 refused_or : {A : Type 0} (t : Bool) (d e : Fault) (f : Unit {0} → Result A Fault) → refuse_if t d >>= f ≡ Err e → ((t ≡ true) × (d ≡ e)) ⊎ ((t ≡ false) × (f tt ≡ Err e))
 refused_or true d e f h = inl (refl, cc)
@@ -169,16 +171,70 @@ pub causes : RefusalsHaveCauses module_read
 causes b e file h = by_cause (cause b e (bytes_of_all b file.bytes) h)
   where
     stuck : OfSection b e → IsStuck b
-    stuck o = let f = o.failing in record {
-      sections = f.sections;
-      at = f.at;
-      before = record { header = o.header; text = f.text; here = f.here; spelled = f.spelled };
-      more = f.more;
-      unspelled = λ x text next k t. clash (section_at (after_all f.sections start) b f.at) e (x, next) f.fails (section_again tell (after_all f.sections start) b f.at next x text t k);
-    }
+    stuck o = let f = o.failing in (
+      f.at,
+      record {
+        sections = f.sections;
+        before = record { header = o.header; text = f.text; here = f.here; spelled = f.spelled };
+        more = f.more;
+        unspelled = λ x text next k t. clash (section_at (after_all f.sections start) b f.at) e (x, next) f.fails (section_again tell (after_all f.sections start) b f.at next x text t k);
+      },
+    )
 
     by_cause : Cause b e → IsHeadless b e ⊎ (IsStuck b ⊎ (LacksBodies b × (e ≡ fault.Count (length b))))
     by_cause (inl x) = absurd (omega (arith, file.small, x.0))
     by_cause (inr (inl o)) = inl o.headless
     by_cause (inr (inr (inl o))) = inr (inl (stuck o))
     by_cause (inr (inr (inr x))) = inr (inr x)
+
+-- ---- each cause is one
+
+-- where a module is spelled, sections stand up to its end
+none_stuck : (b : List ℕ) (m : NestedModule) → SpellsModule m b → IsStuck b → ⊥
+none_stuck b m s stuck = by_others r.others r.text r.spelled r.here
+  where
+    all : Filled b
+    all = all_begins m b s
+
+    at : ℕ
+    at = stuck.0
+
+    r : GoesOn b (let k = stuck.1 in k.sections) all.sections start at (length b)
+    r =
+        let k = stuck.1 in
+        let before = k.before in
+        let begins = all.begins in
+        goes_on b k.sections all.sections start 8 at (length b) before.text begins.text before.spelled before.here begins.spelled begins.here (omega (arith, k.more))
+
+    by_others : (ys : List Section) (text : List ℕ) → SpellsSections (after_all (let k = stuck.1 in k.sections) start) ys text → Here b at text (length b) → ⊥
+    by_others [] text t h = let k = stuck.1 in absurd (omega (arith, k.more, h.size, ap length t))
+    by_others (y ∷ ys) text t h =
+        let k = stuck.1 in
+        k.unspelled y t.0 (at + length t.0) (here_first b at (length b) t.0 t.1 (same_text b at (length b) text (t.0 ++ t.1) t.2 h)) t.3
+
+none_lacks : (b : List ℕ) (m : NestedModule) → SpellsModule m b → LacksBodies b → ⊥
+none_lacks b m s lacking =
+    let t = s.1 in
+    let x = t.2 in
+    let begins = lacking.whole in
+    let whole : b ≡ (magic ++ version) ++ begins.text = sym (take_all (length b) b (omega arith)) ∙ front_is b ((magic ++ version) ++ begins.text) (length b) (begins_whole b lacking.sections (length b) begins) in
+    let rest : t.0 ≡ begins.text = ap (drop 8) (sym t.1 ∙ whole) in
+    let same : x.0 ≡ lacking.sections = same_sections x.0 lacking.sections begins.text (subst (SpellsSections start x.0) rest x.3) begins.spelled in
+    let bodies : HasBodies x.0 = ap (λ (m : NestedModule). length m.funcs) (sym x.1) ∙ x.2 in
+    lacking.lacks (subst HasBodies same bodies)
+
+pub unless_cause : SpellsUnlessCause SpellsModule
+unless_cause b file = (has, is)
+  where
+    has : ((m : NestedModule) → SpellsModule m b → ⊥) → HasCause b
+    has none =
+        let r = (refuses b file.bytes).1 none in
+        elim (causes b r.0 file r.1) [
+          | inl h ↦ inl h.unspelled
+          | inr other ↦ inr (elim other [ inl stuck ↦ inl stuck | inr lacking ↦ inr lacking.0 ])
+        ]
+
+    is : HasCause b → (m : NestedModule) → SpellsModule m b → ⊥
+    is (inl headless) m s = let all = all_begins m b s in let begins = all.begins in headless begins.header
+    is (inr (inl stuck)) m s = none_stuck b m s stuck
+    is (inr (inr lacking)) m s = none_lacks b m s lacking

@@ -116,12 +116,10 @@ begins_none rest = record {
 broken : IsBroken (broken_file []) 10
 unfolding byte_at u32_at
 broken = record {
-  sections = [];
   at = 8;
-  before = begins_none (8 ∷ 0 ∷ []);
+  stuck = record { sections = []; before = begins_none (8 ∷ 0 ∷ []); more = omega arith; unspelled = unspelled };
   states = record { id = 8; size = 0; next = 10; id_is = refl; size_is = refl; end_is = refl };
   inside = omega arith;
-  unspelled = unspelled;
 }
   where
     unspelled : (x : Section) (text : List ℕ) (next : ℕ) → Here (broken_file []) 8 text next → SpellsSection start x text → ⊥

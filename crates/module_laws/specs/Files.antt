@@ -47,15 +47,6 @@ pub record IsInSection (b : List ℕ) (place : ℕ) : Type 0 where
 abbrev pub IsInside : List ℕ → ℕ → Type 0
 IsInside b place = (place < 8) ⊎ IsInSection b place
 
--- Behind sections that are spelled stands an id and a size, which states an end in the file, but no section is spelled there.
-pub record IsBroken (b : List ℕ) (stop : ℕ) : Type 0 where
-  pub sections : List Section
-  pub at : ℕ
-  pub before : Begins b sections at
-  pub states : StatesEnd b at stop
-  pub inside : stop ≤ length b
-  pub unspelled : (x : Section) (text : List ℕ) (next : ℕ) → Here b at text next → SpellsSection (after_all sections start) x text → ⊥
-
 -- Behind sections that are spelled stands an id and a size that leads past the end of the file, to this end.
 pub record IsOverlong (b : List ℕ) (stop : ℕ) : Type 0 where
   pub sections : List Section
@@ -64,13 +55,23 @@ pub record IsOverlong (b : List ℕ) (stop : ℕ) : Type 0 where
   pub states : StatesEnd b at stop
   pub past : length b < stop
 
--- Behind the header, or behind sections that are spelled, something stands, but no section is spelled there.
-pub record IsStuck (b : List ℕ) : Type 0 where
+-- Behind the header, or behind sections that are spelled, something stands at this place, but no section is spelled there.
+pub record IsStuckAt (b : List ℕ) (at : ℕ) : Type 0 where
   pub sections : List Section
-  pub at : ℕ
   pub before : Begins b sections at
   pub more : at < length b
-  pub unspelled : (x : Section) (text : List ℕ) (next : ℕ) → Here b at text next → SpellsSection (after_all sections start) x text → ⊥
+  pub unspelled : (x : Section) (text : List ℕ) (next : ℕ) → Here b at text next
+      → SpellsSection (after_all sections start) x text → ⊥
+
+abbrev pub IsStuck : List ℕ → Type 0
+IsStuck b = (at : ℕ) × IsStuckAt b at
+
+-- and what stands there is an id and a size, which states this end in the file
+pub record IsBroken (b : List ℕ) (stop : ℕ) : Type 0 where
+  pub at : ℕ
+  pub stuck : IsStuckAt b at
+  pub states : StatesEnd b at stop
+  pub inside : stop ≤ length b
 
 -- a body for each function that the sections declare
 abbrev pub HasBodies : List Section → Type 0
@@ -81,3 +82,7 @@ pub record LacksBodies (b : List ℕ) : Type 0 where
   pub sections : List Section
   pub whole : Begins b sections (length b)
   pub lacks : HasBodies sections → ⊥
+
+-- why bytes spell no module, if they aren't too many: no header, a place where no section is spelled, or missing bodies
+abbrev pub HasCause : List ℕ → Type 0
+HasCause b = (Here b 0 (magic ++ version) 8 → ⊥) ⊎ (IsStuck b ⊎ LacksBodies b)

@@ -22,16 +22,19 @@ pub record IsHeadless (b : List ℕ) (e : Fault) : Type 0 where
   pub unspelled : Here b 0 (magic ++ version) 8 → ⊥
   pub of_header : (e ≡ Magic 0) ⊎ (e ≡ Version 4)
 
--- A file that is refused has no header; or a place behind its header or behind a section where no section is spelled; or sections up to its end
--- that lack bodies, and then the fault is Count at the end.
+-- A file that is refused has no header; or a place behind its header or behind a section where no section is spelled; or
+-- sections up to its end that lack bodies, and then the fault is Count at the end.
 abbrev pub RefusalsHaveCauses : (List ℕ → Result NestedModule Fault) → Type 0
 RefusalsHaveCauses read =
-    (b : List ℕ) (e : Fault) → IsFile b → read b ≡ Err e → IsHeadless b e ⊎ (IsStuck b ⊎ (LacksBodies b × (e ≡ Count (length b))))
+    (b : List ℕ) (e : Fault) → IsFile b → read b ≡ Err e
+    → IsHeadless b e ⊎ (IsStuck b ⊎ (LacksBodies b × (e ≡ Count (length b))))
 
--- A fault lies in the file or at its end, or a section's size leads past the file, and the fault is Short at the end that it states.
+-- A fault lies in the file or at its end, or a section's size leads past the file, and the fault is Short at the end that it
+-- states.
 abbrev pub FaultsLieInFile : (List ℕ → Result NestedModule Fault) → Type 0
 FaultsLieInFile read =
-    (b : List ℕ) (e : Fault) → AreBytes b → read b ≡ Err e → IsIn (length b) e ⊎ ((stop : ℕ) × IsOverlong b stop × (e ≡ Short stop))
+    (b : List ℕ) (e : Fault) → AreBytes b → read b ≡ Err e
+    → IsIn (length b) e ⊎ ((stop : ℕ) × IsOverlong b stop × (e ≡ Short stop))
 
 -- it is a fault of the bytes, and not want of memory
 abbrev pub IsOfBytes : Fault → Type 0

@@ -1,13 +1,19 @@
 //! What holds of the grammar of modules, and of what a file is read as.
 ghost use Rattle.module_specs.specs.ModuleSpelling.{SpellsModule};
 ghost use Rattle.module_specs.specs.ModuleReading.{module_read};
-ghost use Rattle.module_laws.specs.Grammars.{SpellsOne, IgnoresCustom};
+ghost use Rattle.module_laws.specs.Grammars.{SpellsOne, SpellsUnlessCause, IgnoresCustom};
 ghost use Rattle.module_laws.specs.Readings.{GivesSpelled, RefusesUnspelled, RefusalsHaveCauses, FaultsLieInFile, FaultsAreOfBytes, FaultsStay};
 ghost use Rattle.module_laws.specs.Cuts.{EachPlace, RefusesCuts, CutsAreModules, CutsAreCounted};
 
 /// Two modules with one spelling are one.
 pub fn a_file_spells_one_module()
     ensures one { SpellsOne SpellsModule }
+{}
+
+/// A file within the limit spells a module, unless it has no header, or somewhere behind its header and its sections what
+/// is no section, or functions without bodies.
+pub fn files_without_a_module_have_a_cause()
+    ensures cause { SpellsUnlessCause SpellsModule }
 {}
 
 /// A module with a custom section more, behind its header or behind any section, is the same module.
@@ -20,7 +26,7 @@ pub fn reading_is_exact()
     ensures gives { GivesSpelled module_read }
     ensures refuses { RefusesUnspelled module_read }
 
-    // A file that is refused has no header, or somewhere no section where one has to stand, or functions without bodies.
+    // Without a header the fault is one of the header; without bodies it is Count at the end.
     ensures causes { RefusalsHaveCauses module_read }
 {}
 
