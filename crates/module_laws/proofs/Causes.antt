@@ -189,13 +189,10 @@ causes b e file h = by_cause (cause b e (bytes_of_all b file.bytes) h)
 
 -- ---- each cause is one
 
--- where a module is spelled, sections stand up to its end
-none_stuck : (b : List ℕ) (m : NestedModule) → SpellsModule m b → IsStuck b → ⊥
-none_stuck b m s stuck = by_others r.others r.text r.spelled r.here
+-- where sections stand up to the end, there is no place without one
+pub none_stuck : (b : List ℕ) → Filled b → IsStuck b → ⊥
+none_stuck b all stuck = by_others r.others r.text r.spelled r.here
   where
-    all : Filled b
-    all = all_begins m b s
-
     at : ℕ
     at = stuck.0
 
@@ -236,5 +233,5 @@ unless_cause b file = (has, is)
 
     is : HasCause b → (m : NestedModule) → SpellsModule m b → ⊥
     is (inl headless) m s = let all = all_begins m b s in let begins = all.begins in headless begins.header
-    is (inr (inl stuck)) m s = none_stuck b m s stuck
+    is (inr (inl stuck)) m s = none_stuck b (all_begins m b s) stuck
     is (inr (inr lacking)) m s = none_lacks b m s lacking

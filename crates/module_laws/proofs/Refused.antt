@@ -18,12 +18,15 @@ use Rattle.module_specs.proofs.Places.{ok_is}
 use Rattle.module_specs.proofs.Sections.{section_again, section_here}
 use Rattle.module_specs.proofs.Modules.{module_again, module_here}
 use Rattle.module_laws.specs.Files.{IsFront, AreBytes, IsFile, IsInside, IsBroken, HasBodies}
-use Rattle.module_laws.specs.Grammars.{SpellsOne, IgnoresCustom}
-use Rattle.module_laws.specs.Readings.{GivesSpelled, RefusesUnspelled, FaultsLieInFile, FaultsAreOfBytes, FaultsStay}
-use Rattle.module_laws.specs.Cuts.{RefusesCuts, CutsAreCounted}
+use Rattle.module_laws.specs.Grammars.{SpellsOne, SpellsUnlessCause, IgnoresCustom}
+use Rattle.module_laws.specs.Readings.{GivesSpelled, RefusesUnspelled, RefusalsHaveCauses, FaultsLieInFile, FaultsAreOfBytes, FaultsStay}
+use Rattle.module_laws.specs.Cuts.{RefusesCuts, CutsAreModules, CutsAreCounted}
 use Rattle.module_laws.specs.Wrong as wrong
 use Rattle.module_laws.specs.Worked.{start_file, start_module, funcs_file, funcs_module, broken_file, nothing-is, start-is, start-section, start-8, funcs-is, funcs-section, funcs-12, broken-section, broken-is, broken-more}
-use Rattle.module_laws.proofs.Determined.{tell, clash}
+use Rattle.module_laws.proofs.Determined.{tell, clash, Filled}
+use Rattle.module_laws.proofs.Customs.{ignored}
+use Rattle.module_laws.proofs.Causes.{none_stuck, unless_cause}
+use Rattle.module_specs.proofs.Regions.{narrow}
 
 -- ---- the files are bytes
 
@@ -80,6 +83,18 @@ pub unmarked-refused : IgnoresCustom wrong.SpellsUnmarked → ⊥
 unmarked-refused h =
     let r = (h start_module (wrong.header start_file) (0 ∷ 1 ∷ 0 ∷ []) (8 ∷ 1 ∷ 5 ∷ []) front_of_start custom_spelled (omega arith)).0 (start_spelled, λ e. absurd (omega (arith, e))) in
     r.1 refl
+
+-- with a custom section behind its header the start file is a module, and has no cause
+pub cause-refused : SpellsUnlessCause wrong.SpellsUnmarked → ⊥
+cause-refused h =
+    let spelled = (ignored start_module (wrong.header start_file) (0 ∷ 1 ∷ 0 ∷ []) (8 ∷ 1 ∷ 5 ∷ []) front_of_start custom_spelled (omega arith)).0 start_spelled in
+    (unless_cause marked marked_file).1 ((h marked marked_file).0 (λ m s. s.1 refl)) start_module spelled
+  where
+    marked : List ℕ
+    marked = wrong.header start_file ++ (0 ∷ 1 ∷ 0 ∷ []) ++ (8 ∷ 1 ∷ 5 ∷ [])
+
+    marked_file : IsFile marked
+    marked_file = record { bytes = bytes_by marked refl; small = omega arith }
 
 -- ---- readings
 
@@ -174,3 +189,32 @@ pub count-refused : CutsAreCounted wrong.uncounted → ⊥
 count-refused h =
     let r = h funcs_module funcs_file 12 (Funcs (0 ∷ []) ∷ []) funcs_bytes funcs_spelled begins_funcs no_body in
     clash (wrong.uncounted (take 12 funcs_file)) (fault.Count 12) empty r (ap wrong.without_count funcs-12)
+
+pub modules-refused : CutsAreModules wrong.never_read → ⊥
+modules-refused h =
+    clash (wrong.never_read (take 8 start_file)) fault.Memory empty refl (h start_module start_file 8 [] start_spelled (begins_none (8 ∷ 1 ∷ 5 ∷ [])) refl)
+
+-- the functions that are left have no bodies, and sections stand up to the end
+left_filled : Filled (take 12 funcs_file)
+left_filled = record { sections = Funcs (0 ∷ []) ∷ []; begins = begins }
+  where
+    begins : Begins (take 12 funcs_file) (Funcs (0 ∷ []) ∷ []) 12
+    begins = record {
+      header = record { whole = refl; size = refl; within = omega arith };
+      text = begins_funcs.text;
+      here = narrow funcs_file 12 (omega arith) 8 12 begins_funcs.text (omega arith) begins_funcs.here;
+      spelled = begins_funcs.spelled;
+    }
+
+pub no-count-refused : RefusalsHaveCauses wrong.no_count → ⊥
+no-count-refused h =
+    elim (h (take 12 funcs_file) (fault.Form 12) file (ap wrong.no_counts funcs-12)) [
+      | inl headless ↦ headless.unspelled (let begins = left_filled.begins in begins.header)
+      | inr other ↦ elim other [
+        | inl stuck ↦ none_stuck (take 12 funcs_file) left_filled stuck
+        | inr lacking ↦ let same : fault.Form 12 ≡ fault.Count 12 = lacking.1 in absurd cc
+      ]
+    ]
+  where
+    file : IsFile (take 12 funcs_file)
+    file = record { bytes = bytes_by (take 12 funcs_file) refl; small = omega arith }

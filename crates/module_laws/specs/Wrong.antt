@@ -43,6 +43,15 @@ past_the_end b = at_place (length b + 1) (module_read b)
 abbrev pub at_the_end : List ℕ → Result NestedModule Fault
 at_the_end b = at_place (length b) (module_read b)
 
+-- functions without bodies are a fault of form
+abbrev pub no_counts : Result NestedModule Fault → Result NestedModule Fault
+no_counts (Ok m) = Ok m
+no_counts (Err (fault.Count place)) = Err (fault.Form place)
+no_counts (Err e) = Err e
+
+abbrev pub no_count : List ℕ → Result NestedModule Fault
+no_count b = no_counts (module_read b)
+
 -- functions without bodies don't count
 abbrev pub without_count : Result NestedModule Fault → Result NestedModule Fault
 without_count (Ok m) = Ok m

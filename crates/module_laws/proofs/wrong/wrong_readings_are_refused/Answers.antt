@@ -1,4 +1,4 @@
-use Rattle.module_laws.proofs.Refused.{never-read-refused, header-refused, never-refused, past-refused, end-refused, cut-refused, count-refused}
+use Rattle.module_laws.proofs.Refused.{no-count-refused, modules-refused, never-read-refused, header-refused, never-refused, past-refused, end-refused, cut-refused, count-refused}
 use Rattle.module_laws.proofs.wrong.wrong_readings_are_refused.Goals as goal
 
 pub returns-clause-header_alone : goal.returns-clause-header_alone
@@ -21,3 +21,9 @@ returns-clause-uncounted c = count-refused
 
 pub returns-clause-never_read : goal.returns-clause-never_read
 returns-clause-never_read c = never-read-refused
+
+pub returns-clause-no_count : goal.returns-clause-no_count
+returns-clause-no_count c = no-count-refused
+
+pub returns-clause-cut_refused : goal.returns-clause-cut_refused
+returns-clause-cut_refused c = modules-refused
