@@ -16,6 +16,11 @@ fn add_run(alloc: Global, bytes: &mut Vec<u8>, run: &str) -> Result<(), Fail> {
         None => (run, 1),
     };
     let unit = hex::decode(alloc, unit).ok().ok_or("bytes")?;
+    if let [byte] = *unit.as_slice() {
+        let run = vec![in alloc; byte; times as usize]?;
+        bytes.extend_from_slice(&run)?;
+        return Ok(());
+    }
     for _ in 0..times {
         bytes.extend_from_slice(&unit)?;
     }
