@@ -1,10 +1,13 @@
 //! Modules, read (WebAssembly Core 1.0, section 5.5).
 #![tactic(auto)]
 
+mod bodies;
+mod content;
+mod error;
 mod items;
+mod module;
 mod segments;
 mod types;
 
-pub use items::{bytes_of, indices, name};
-pub use segments::{datas, elements, exports, globals};
-pub use types::{func_types, memories, tables};
+pub use error::ReadError;
+pub use module::read_module;

@@ -1,0 +1,9 @@
+pub mod Determined
+pub mod Exact
+pub mod Causes
+pub mod Staying
+pub mod Contents
+pub mod Overlong
+pub mod Cutting
+pub mod Customs
+pub mod Refused
