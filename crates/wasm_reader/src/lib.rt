@@ -11,3 +11,6 @@ mod types;
 
 pub use error::ReadError;
 pub use module::read_module;
+
+#[cfg(test)]
+mod tests;
