@@ -1,0 +1,10 @@
+pub mod Least
+pub mod LeastCode
+pub mod LeastLocals
+pub mod LeastParts
+pub mod LeastModule
+pub mod Flattened
+pub mod Loops
+pub mod Bodies
+pub mod Load
+pub mod NumberSizes
