@@ -1,0 +1,7 @@
+-- The definitions of a session, by what they are about.
+pub mod Outcome
+pub mod Sequence
+pub mod Replies
+pub mod Session
+pub mod Exchanges
+pub mod Worked
