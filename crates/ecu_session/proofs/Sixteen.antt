@@ -1,5 +1,5 @@
 -- The loop of 16 iterations.
-use Rattle.std.proofs.Common.{◌≡◌, ◌<◌, ◌≤◌, sym, ◌+◌, ℕ, List, ◌-◌, suc, Result, Ok, Err, Bool, true, false, arith, ◌∙◌, zero, refl}
+use Rattle.std.proofs.Common.{◌≡◌, ◌<◌, ◌≤◌, sym, ◌+◌, ℕ, List, ◌-◌, suc, Result, Ok, Err, true, false, arith, ◌∙◌, zero, refl}
 use Rattle.fmi_states.specs.declared.call.Call.{Call}
 use Rattle.fmi_states.specs.declared.reply.Reply.{Reply}
 use Rattle.bus_log.specs.Lines.{cause_of}
