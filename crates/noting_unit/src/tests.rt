@@ -4,7 +4,7 @@ ghost use Rattle.std.specs.Prelude.{◌≡◌, [], ◌∷◌, IfOk, length};
 use crate::{Exchange, Exchanges, NotingUnit, noted_close, noted_session};
 use bus_log::Cause;
 use can_frame::{Bytes, Name, Numbers};
-use ecu_session::{DueChange, End, Inbox, SessionIn, SessionOut, session};
+use ecu_session::{DueChange, Emissions, End, Inbox, SessionIn, SessionOut, session};
 use fmi_states::{Broken, Call, Ecu, FmiStatus, ListEcu, Phase, Qualifier, Replies, Reply};
 use fmu_description::{Description, Terminal};
 use std::alloc::{AllocError, Global};
@@ -246,6 +246,20 @@ fn transcript(alloc: Global, exchanges: &Exchanges) -> Result<String, AllocError
     Ok(text)
 }
 
+// The terminals with their bytes, a line each.
+fn emissions(alloc: Global, emitted: &Emissions) -> Result<String, AllocError> {
+    let mut text = String::new(alloc);
+    for emission in emitted.as_slice() {
+        let place = emission.terminal;
+        text.push_str(format!(in alloc; "{place}:")?.as_str())?;
+        for byte in emission.bytes.as_slice() {
+            text.push_str(format!(in alloc; " {byte}")?.as_str())?;
+        }
+        text.push_str("\n")?;
+    }
+    Ok(text)
+}
+
 fn data(alloc: Global, bytes: &[u8]) -> Result<Reply, AllocError> {
     Ok(Reply::Data(FmiStatus::Warning, Bytes::of(bytes.to_vec(alloc)?)))
 }
@@ -316,12 +330,8 @@ fn a_session_written_out(rt: HostRuntime) -> Result<(), Fail> {
         two.outcome.dues.as_slice(),
         [DueChange::At(3500), DueChange::Keep, DueChange::Clear].as_slice()
     );
-    let emitted = two.outcome.emitted.as_slice();
-    assert_eq!(rt; emitted.len(), 2);
-    assert_eq!(rt; emitted[0].terminal, 0);
-    assert_eq!(rt; emitted[0].bytes.as_slice(), [9].as_slice());
-    assert_eq!(rt; emitted[1].terminal, 1);
-    assert_eq!(rt; emitted[1].bytes.as_slice(), [11, 12].as_slice());
+    let emitted = emissions(alloc, &two.outcome.emitted)?;
+    assert_eq!(rt; emitted.as_str(), "0: 9\n1: 11 12\n");
     let calls = transcript(alloc, &two.unit.exchanges)?;
     assert_eq!(rt;
         calls.as_str(),
@@ -332,16 +342,21 @@ fn a_session_written_out(rt: HostRuntime) -> Result<(), Fail> {
     Ok(())
 }
 
+fn noted_one(unit: NotingUnit<ListEcu>) -> ListEcu {
+    unit.unit
+}
+
 // How a close ends, and how many calls it makes.
 fn closing(alloc: Global) -> Result<Option<(End, usize)>, AllocError> {
     let Some(two) = two_sessions(alloc)? else {
         return Ok(None);
     };
-    if !matches!(two.unit.phase(), Phase::Step) {
+    let unit = noted_one(two.unit);
+    if !matches!(unit.phase(), Phase::Step) {
         return Ok(None);
     }
     let mut unit = NotingUnit {
-        unit: two.unit.unit,
+        unit,
         exchanges: Exchanges::new(alloc),
     };
     let end = noted_close(alloc, &mut unit, &mut ())?;
