@@ -1,0 +1,2 @@
+//! One session of a unit, as definitions that other crates cite. There is no code here.
+#![tactic(auto)]
