@@ -63,7 +63,7 @@ counted_in_file bytes d h =
     counted t.0 d t.2
 
 -- what holds of each, holds of one of them
-of_one : {A : Type 0} (P : A → Type 0) (x : A) (xs : List A) → AllByRecursion P xs → IsAmong x xs → P x
+pub of_one : {A : Type 0} (P : A → Type 0) (x : A) (xs : List A) → AllByRecursion P xs → IsAmong x xs → P x
 of_one P x [] all there = absurd there
 of_one P x (y ∷ ys) all (inl same) = subst P same all.0
 of_one P x (y ∷ ys) all (inr there) = of_one P x ys all.1 there

@@ -23,21 +23,21 @@ use Rattle.description_laws.proofs.AcceptedTerminals.{description_fits}
 use Rattle.description_laws.proofs.InRange.{of_one}
 
 -- what a variable is, as a number: a countdown clock, a triggered clock by its causality, a binary by its causality
-clock_kind : IntervalVariability → Causality → ℕ
+abbrev clock_kind : IntervalVariability → Causality → ℕ
 clock_kind Countdown c = 0
 clock_kind Triggered Input = 1
 clock_kind Triggered Output = 2
 
-binary_kind : Causality → ℕ
+abbrev binary_kind : Causality → ℕ
 binary_kind Input = 3
 binary_kind Output = 4
 
 -- what the first binary, and the first clock or else binary, is that has this reference
-binary_found : List BinaryVariable → ℕ → ℕ
+abbrev binary_found : List BinaryVariable → ℕ → ℕ
 binary_found [] r = 5
 binary_found (b ∷ bs) r = cond (b.reference == r) (binary_kind b.causality) (binary_found bs r)
 
-found : List ClockVariable → List BinaryVariable → ℕ → ℕ
+abbrev found : List ClockVariable → List BinaryVariable → ℕ → ℕ
 found [] bs r = binary_found bs r
 found (c ∷ cs) bs r = cond (c.reference == r) (clock_kind c.interval c.causality) (found cs bs r)
 
@@ -151,29 +151,27 @@ none_later t a k (u ∷ us) s =
     or_false (u.rx_data == a) _ (k u.rx_data s.0.rx_data) second
 
 terminals_different : (f : ℕ → ℕ) (ts : List Terminal) → AllByRecursion (HasKinds f) ts → ShareNone ts → AreDifferent (of_terminals ts)
-terminals_different f [] kinds share = tt
-terminals_different f (t ∷ ts) kinds share =
-    let k = kinds.0 in
+terminals_different f [] are share = tt
+terminals_different f (t ∷ ts) are share =
+    let k = are.0 in
     let after_rx_data = none_later t t.rx_data (λ y h. (parts y t h).0) ts share.0 in
     let after_tx_data = none_later t t.tx_data (λ y h. (parts y t h).1) ts share.0 in
     let after_rx_clock = none_later t t.rx_clock (λ y h. (parts y t h).2) ts share.0 in
     let after_tx_clock = none_later t t.tx_clock (λ y h. (parts y t h).3) ts share.0 in
     let a = or_false (t.tx_clock == t.rx_data) _ (apart f t.tx_clock t.rx_data 2 3 k.tx_clock k.rx_data refl) after_rx_data in
     let b = or_false (t.tx_data == t.rx_data) _ (apart f t.tx_data t.rx_data 4 3 k.tx_data k.rx_data refl) a in
-    let c = or_false (t.tx_clock == t.rx_clock) _ (apart f t.tx_clock t.rx_clock 2 1 k.tx_clock k.rx_clock refl) after_rx_clock in (
-      or_false (t.rx_clock == t.rx_data) _ (apart f t.rx_clock t.rx_data 1 3 k.rx_clock k.rx_data refl) b,
-      or_false (t.tx_data == t.rx_clock) _ (apart f t.tx_data t.rx_clock 4 1 k.tx_data k.rx_clock refl) c,
-      or_false (t.tx_clock == t.tx_data) _ (apart f t.tx_clock t.tx_data 2 4 k.tx_clock k.tx_data refl) after_tx_data,
-      after_tx_clock,
-      terminals_different f ts kinds.1 share.1,
-    )
+    let c = or_false (t.tx_clock == t.rx_clock) _ (apart f t.tx_clock t.rx_clock 2 1 k.tx_clock k.rx_clock refl) after_rx_clock in
+    (or_false (t.rx_clock == t.rx_data) _ (apart f t.rx_clock t.rx_data 1 3 k.rx_clock k.rx_data refl) b,
+    (or_false (t.tx_data == t.rx_clock) _ (apart f t.tx_data t.rx_clock 4 1 k.tx_data k.rx_clock refl) c,
+    (or_false (t.tx_clock == t.tx_data) _ (apart f t.tx_clock t.tx_data 2 4 k.tx_clock k.tx_data refl) after_tx_data,
+    (after_tx_clock, terminals_different f ts are.1 share.1))))
 
 -- no variable of a terminal counts down
 no_countdown : (f : ℕ → ℕ) (ts : List Terminal) → AllByRecursion (HasKinds f) ts → AllByRecursion (λ x. (f x == 0) ≡ false) (of_terminals ts)
-no_countdown f [] kinds = tt
-no_countdown f (t ∷ ts) kinds =
-    let k = kinds.0 in
-    (rw k.rx_data refl, rw k.rx_clock refl, rw k.tx_data refl, rw k.tx_clock refl, no_countdown f ts kinds.1)
+no_countdown f [] are = tt
+no_countdown f (t ∷ ts) are =
+    let k = are.0 in
+    (rw k.rx_data refl, (rw k.rx_clock refl, (rw k.tx_data refl, (rw k.tx_clock refl, no_countdown f ts are.1))))
 
 counts_down : (i : IntervalVariability) (c : Causality) → is_countdown i ≡ true → clock_kind i c ≡ 0
 counts_down Countdown c h = refl
