@@ -1,5 +1,5 @@
 -- The numbers and names of an accepted description.
-use Rattle.std.proofs.Common.{◌≡◌, ℕ, ◌+◌, ◌^◌, ◌<◌, ◌≤◌, Bool, true, false, nat_le, List, [], ◌∷◌, length, Option, Result, Ok, refl, ◌∙◌, subst, arith, codes, cond, inl, inr}
+use Rattle.std.proofs.Common.{◌≡◌, ℕ, ◌^◌, ◌<◌, ◌≤◌, Bool, true, false, nat_le, List, [], ◌∷◌, length, Ok, ◌∙◌, subst, arith, codes, cond, inl, inr}
 use Rattle.std.specs.Prelude.{map, filter}
 use Rattle.std.specs.List.{AllByRecursion}
 use Rattle.std.proofs.lemmas.List.{length-map}
@@ -17,7 +17,7 @@ use Rattle.description_specs.specs.Clocks.{clocks_of, countdown_references}
 use Rattle.description_specs.specs.Binaries.{binaries_of}
 use Rattle.description_specs.specs.Terminals.{terminals_of, terminal_of}
 use Rattle.description_specs.specs.Descriptions.{description_of, description_in, head_of, version, most_bytes}
-use Rattle.description_laws.specs.Fit.{IsAmong, IsData, IsTerminal, IsBinaryInRange, HoldsTogether}
+use Rattle.description_laws.specs.Fit.{IsAmong, IsData, IsTerminal, IsBinaryInRange}
 use Rattle.description_laws.specs.Ranges.{IsReference, IsMaxSize, IsTerminalInRange, IsInRange}
 use Rattle.description_laws.proofs.Steps.{needs_ok, that_ok, bind_ok, tables_ok, each_length}
 use Rattle.description_laws.proofs.AcceptedTerminals.{description_fits}

@@ -16,7 +16,7 @@ use Rattle.description_specs.specs.Variables.{is_countdown}
 use Rattle.description_specs.specs.Clocks.{countdown_references}
 use Rattle.description_specs.specs.Descriptions.{description_of}
 use Rattle.description_specs.specs.Terminals.{stands_in}
-use Rattle.description_laws.specs.Fit.{AreDifferent, IsAmong, IsData, IsTerminal, HasClock, SharesNone, ShareNone, HoldsTogether, of_clocks, of_binaries, of_terminals, references_of}
+use Rattle.description_laws.specs.Fit.{AreDifferent, IsAmong, IsData, IsTerminal, HasClock, SharesNone, ShareNone, of_clocks, of_binaries, of_terminals, references_of}
 use Rattle.description_laws.proofs.Steps.{either_false, flipped}
 use Rattle.description_laws.proofs.AcceptedBinaries.{named}
 use Rattle.description_laws.proofs.AcceptedTerminals.{description_fits}
@@ -160,11 +160,16 @@ terminals_different f (t ∷ ts) are share =
     let after_tx_clock = none_later t t.tx_clock (λ y h. (parts y t h).3) ts share.0 in
     let a = or_false (t.tx_clock == t.rx_data) _ (apart f t.tx_clock t.rx_data 2 3 k.tx_clock k.rx_data refl) after_rx_data in
     let b = or_false (t.tx_data == t.rx_data) _ (apart f t.tx_data t.rx_data 4 3 k.tx_data k.rx_data refl) a in
-    let c = or_false (t.tx_clock == t.rx_clock) _ (apart f t.tx_clock t.rx_clock 2 1 k.tx_clock k.rx_clock refl) after_rx_clock in
-    (or_false (t.rx_clock == t.rx_data) _ (apart f t.rx_clock t.rx_data 1 3 k.rx_clock k.rx_data refl) b,
-    (or_false (t.tx_data == t.rx_clock) _ (apart f t.tx_data t.rx_clock 4 1 k.tx_data k.rx_clock refl) c,
-    (or_false (t.tx_clock == t.tx_data) _ (apart f t.tx_clock t.tx_data 2 4 k.tx_clock k.tx_data refl) after_tx_data,
-    (after_tx_clock, terminals_different f ts are.1 share.1))))
+    let c = or_false (t.tx_clock == t.rx_clock) _ (apart f t.tx_clock t.rx_clock 2 1 k.tx_clock k.rx_clock refl) after_rx_clock in (
+      or_false (t.rx_clock == t.rx_data) _ (apart f t.rx_clock t.rx_data 1 3 k.rx_clock k.rx_data refl) b,
+      (
+        or_false (t.tx_data == t.rx_clock) _ (apart f t.tx_data t.rx_clock 4 1 k.tx_data k.rx_clock refl) c,
+        (
+          or_false (t.tx_clock == t.tx_data) _ (apart f t.tx_clock t.tx_data 2 4 k.tx_clock k.tx_data refl) after_tx_data,
+          (after_tx_clock, terminals_different f ts are.1 share.1),
+        ),
+      ),
+    )
 
 -- no variable of a terminal counts down
 no_countdown : (f : ℕ → ℕ) (ts : List Terminal) → AllByRecursion (HasKinds f) ts → AllByRecursion (λ x. (f x == 0) ≡ false) (of_terminals ts)

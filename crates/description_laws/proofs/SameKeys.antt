@@ -1,20 +1,20 @@
 -- Documents that tell the same are read alike.
-use Rattle.std.proofs.Common.{◌≡◌, ℕ, ◌≤◌, Bool, true, false, nat_le, ◌&&◌, List, [], ◌∷◌, ◌++◌, length, Option, Some, None, Result, Ok, Err, refl, sym, ap, ◌∙◌, arith, inl, inr, is_some, codes}
-use Rattle.std.specs.Prelude.{option_and_then, if◌then◌else◌, unwrap_or}
+use Rattle.std.proofs.Common.{◌≡◌, ℕ, ◌≤◌, Bool, true, false, nat_le, ◌&&◌, List, [], ◌∷◌, ◌++◌, length, Some, None, Result, Ok, Err, refl, sym, ap, ◌∙◌, arith, inl, inr, codes}
+use Rattle.std.specs.Prelude.{if◌then◌else◌, unwrap_or}
 use Rattle.std.proofs.lemmas.Bool.Decides.{nat_tests}
-use Rattle.toml.specs.Data.{Data, array, table, Items, no_items, item, Members, no_members, as_table, get_member}
-use Rattle.document_specs.specs.Checks.{◌>>=◌, needs, needs_that, each}
+use Rattle.toml.specs.Data.{Data, Items, no_items, item, Members, no_members, as_table}
+use Rattle.document_specs.specs.Checks.{◌>>=◌, needs, each}
 use Rattle.document_specs.specs.Documents.{document, are_tables, tables_of, is_within}
-use Rattle.unit_specs.specs.Description.{Description, Terminal}
+use Rattle.unit_specs.specs.Description.{Terminal}
 use Rattle.description_specs.specs.declared.field.Field.TheVariants as field
 use Rattle.description_specs.specs.declared.variable.ClockVariable.{ClockVariable}
 use Rattle.description_specs.specs.declared.variable.BinaryVariable.{BinaryVariable}
-use Rattle.description_specs.specs.Variables.{Refusal, refusal}
-use Rattle.description_specs.specs.Clocks.{clock_of, clock_at, clocks_of, countdown_references}
+use Rattle.description_specs.specs.Variables.{refusal}
+use Rattle.description_specs.specs.Clocks.{clock_of, clock_at, clocks_of}
 use Rattle.description_specs.specs.Binaries.{binary_of, binary_at, binaries_of}
 use Rattle.description_specs.specs.Terminals.{terminal_of, terminal_at, terminals_of}
 use Rattle.description_specs.specs.Descriptions.{description_of, description_in, head_of, most_bytes}
-use Rattle.description_laws.specs.Keys.{AgreeAt, TablesAgree, RowAgrees, RowsAgree, HaveTables, HaveRows, SameTable, SameRows, TellTheSame, head_keys, unit_keys, clock_keys, binary_keys, terminal_keys}
+use Rattle.description_laws.specs.Keys.{AgreeAt, RowAgrees, RowsAgree, SameTable, SameRows, TellTheSame, head_keys, unit_keys, clock_keys, binary_keys, terminal_keys}
 
 bind_same : {E A B : Type 0} (r : Result A E) (f g : A → Result B E) → ((x : A) → f x ≡ g x) → (r >>= f) ≡ (r >>= g)
 bind_same (Ok x) f g same = same x

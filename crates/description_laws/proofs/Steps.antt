@@ -1,12 +1,12 @@
 -- What an accepted check says, and what holds after each item that was read.
-use Rattle.std.proofs.Common.{◌≡◌, ℕ, ◌+◌, ◌-◌, ◌^◌, ◌<◌, ◌≤◌, ◌==◌, ◌&&◌, ◌||◌, Bool, true, false, nat_le, List, [], ◌∷◌, ◌++◌, length, length-append, Option, Some, None, Result, Ok, Err, refl, ap, subst, ◌∙◌, arith}
+use Rattle.std.proofs.Common.{◌≡◌, ℕ, ◌+◌, ◌-◌, ◌^◌, ◌<◌, ◌≤◌, ◌==◌, ◌||◌, Bool, true, false, nat_le, List, [], ◌∷◌, ◌++◌, length, length-append, Option, Some, None, Result, Ok, Err, refl, ap, subst, ◌∙◌, arith}
 use Rattle.std.specs.Prelude.{option_and_then, if◌then◌else◌, map}
 use Rattle.std.specs.List.{list_any, AllByRecursion}
 use Rattle.std.proofs.lemmas.Bool.{and_parts}
 use Rattle.std.proofs.lemmas.Bool.Decides.{nat_tests}
 use Rattle.std.proofs.lemmas.List.Folds.{list_any-append}
 use Rattle.document_specs.specs.Checks.{◌>>=◌, needs, each}
-use Rattle.toml.specs.Data.{Members, Items, Data, get_member, as_array, as_integer}
+use Rattle.toml.specs.Data.{Members, Data, get_member, as_array, as_integer}
 use Rattle.document_specs.specs.Documents.{that, is_within, natural, number, number_of, tables, tables_in, some_tables, are_some_tables, are_tables, tables_of}
 use Rattle.description_specs.specs.Variables.{reference}
 use Rattle.description_laws.specs.Fit.{AreDifferent}

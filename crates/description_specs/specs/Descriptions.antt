@@ -1,5 +1,5 @@
 -- The description that a file is, or its first refusal: the list of checks in the format's order.
-use Rattle.std.specs.Prelude.{ℕ, ◌^◌, Bool, List, length, Option, option_and_then, Result, Ok, nat_le, codes, bytes_eq, take}
+use Rattle.std.specs.Prelude.{ℕ, Bool, List, length, Option, option_and_then, Result, Ok, nat_le, codes, bytes_eq, take}
 use Rattle.toml.specs.Data.{Members}
 use Rattle.document_specs.specs.Checks.{◌>>=◌, needs, needs_that}
 use Rattle.document_specs.specs.Documents.{document, that, text, flag, table_at, identifier}
