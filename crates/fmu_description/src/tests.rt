@@ -25,7 +25,7 @@ fn is_refused(
 fn the_example_is_read(rt: HostRuntime) -> Result<(), Fail> {
     match read_description(rt.alloc(), ENGINE.as_bytes()) {
         Ok(unit) => {
-            assert!(rt; unit.identifier.as_slice() == b"engine");
+            assert!(rt; unit.identifier.as_slice() == b"engine".as_slice());
             assert!(rt; unit.countdown.as_slice().is_empty());
             assert!(rt; unit.terminals.len() == 1);
             assert!(rt; unit.terminals[0].rx_max == 4096);
