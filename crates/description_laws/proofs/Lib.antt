@@ -6,3 +6,4 @@ pub mod InRange
 pub mod References
 pub mod FirstRefusals
 pub mod SameKeys
+pub mod OneMoreKey

@@ -1,6 +1,7 @@
 -- Two documents that tell the same: at each key that is read the same stands in both.
-use Rattle.std.specs.Prelude.{◌≡◌, ℕ, List, [], ◌∷◌, Some, ◌⊎◌, codes}
-use Rattle.toml.specs.Data.{Data, array, table, Items, no_items, item, Members, get_member}
+use Rattle.std.specs.Prelude.{◌≡◌, ℕ, Bool, List, [], ◌∷◌, ◌++◌, Some, ◌⊎◌, codes}
+use Rattle.std.specs.List.{list_any}
+use Rattle.toml.specs.Data.{Data, array, table, Items, no_items, item, Members, get_member, same_key}
 
 -- at each of these keys both have the same, or nothing
 abbrev pub AgreeAt : List (List ℕ) → Members → Members → Type 0
@@ -71,3 +72,7 @@ pub record TellTheSame (t u : Members) : Type 0 where
   pub clocks : SameRows clock_keys (codes "Clock") t u
   pub binaries : SameRows binary_keys (codes "Binary") t u
   pub terminals : SameRows terminal_keys (codes "Terminal") t u
+
+-- a key that is read at the top
+abbrev pub is_read : List ℕ → Bool
+is_read key = list_any (λ known. same_key known key) (head_keys ++ codes "CoSimulation" ∷ codes "Clock" ∷ codes "Binary" ∷ codes "Terminal" ∷ [])

@@ -1,8 +1,8 @@
 //! Laws of descriptions: what every accepted one is, which check a refusal names, and what changes nothing.
 #![tactic(auto)]
 
-ghost use Rattle.std.specs.Prelude.{◌≡◌, ◌≤◌, ℕ, List, [], length, Some, Ok, Err};
-ghost use Rattle.toml.specs.Data.{Members};
+ghost use Rattle.std.specs.Prelude.{◌≡◌, ◌≤◌, ℕ, false, List, [], length, Some, Ok, Err};
+ghost use Rattle.toml.specs.Data.{Data, Members, member};
 ghost use Rattle.document_specs.specs.Checks.{each};
 ghost use Rattle.document_specs.specs.Documents.{document};
 ghost use Rattle.unit_specs.specs.Description.{Description};
@@ -16,7 +16,7 @@ ghost use Rattle.description_specs.specs.Descriptions.{description_of, most_byte
 ghost use Rattle.description_laws.specs.Fit.{HoldsTogether, AreDifferent, references_of};
 ghost use Rattle.description_laws.specs.Ranges.{IsInRange};
 ghost use Rattle.description_laws.specs.Order.{IsFirstRefusal};
-ghost use Rattle.description_laws.specs.Keys.{TellTheSame};
+ghost use Rattle.description_laws.specs.Keys.{TellTheSame, is_read};
 
 /// The clocks of an accepted description have value references of their own, those that count down are inputs,
 /// and there are at most 8 of these. Its binaries have references of their own, also apart from the clocks, and
@@ -44,6 +44,11 @@ pub fn its_numbers_lie_in_their_ranges()
 pub fn unknown_keys_change_nothing()
     ensures { (one other : List ℕ) (t u : Members) → length one ≤ most_bytes → length other ≤ most_bytes
         → document one ≡ Some t → document other ≡ Some u → TellTheSame t u → description_of one ≡ description_of other }
+{}
+
+/// A document with one more key at its top that isn't read tells the same.
+pub fn one_more_key_tells_the_same()
+    ensures { (key : List ℕ) (d : Data) (t : Members) → is_read key ≡ false → TellTheSame (member key d t) t }
 {}
 
 /// A refusal among the rows of clocks is that of the first row that isn't a clock, at its position.
