@@ -1,0 +1,4 @@
+pub mod Fit
+pub mod Ranges
+pub mod Order
+pub mod Keys

@@ -1,0 +1,4 @@
+pub mod Bytes
+pub mod Left
+pub mod NextRow
+pub mod Single

@@ -1,0 +1,2 @@
+//! Checks over TOML documents, as definitions that other crates cite. There is no code here.
+#![tactic(auto)]

@@ -1,0 +1,13 @@
+use Rattle.std.proofs.Common.{◌≡◌, true, drop, []}
+use Rattle.toml.specs.View.{items_view}
+use Rattle.document_specs.specs.Checks.{each}
+use Rattle.document_specs.specs.Documents.{are_tables, tables_of}
+use Rattle.description_specs.specs.Clocks.{clock_of}
+use Rattle.fmu_description.proofs.clocks.clocks_in.Given as goal
+
+abbrev pub invariant-loop-value : goal.invariant-loop-value
+invariant-loop-value l =
+    record {
+      tables : are_tables (items_view (drop l.value-index l.rows)) ≡ true;
+      rest : each clock_of l.clocks.items (tables_of (items_view (drop l.value-index l.rows))) ≡ each clock_of [] (tables_of (items_view l.rows));
+    }
