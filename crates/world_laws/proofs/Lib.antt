@@ -1,0 +1,11 @@
+pub mod Lists
+pub mod Order
+pub mod Changed
+pub mod Arranged
+pub mod Sources
+pub mod OneBus
+pub mod Timed
+pub mod Calls
+pub mod Lives
+pub mod Calm
+pub mod Sounded

@@ -1,0 +1,8 @@
+use Rattle.world_laws.proofs.Order.{next-is, next-within}
+use Rattle.world_laws.proofs.events.the_next_event_is_foremost.Goals as goal
+
+pub returns-clause-foremost : goal.returns-clause-foremost
+returns-clause-foremost g c = next-is
+
+pub returns-clause-within : goal.returns-clause-within
+returns-clause-within g c = next-within

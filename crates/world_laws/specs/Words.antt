@@ -1,0 +1,78 @@
+-- The words of the laws of networks.
+use Rattle.std.specs.Prelude.{◌≡◌, ◌≤◌, ℕ, ◌==◌, true, false, All, List, [], ◌++◌, filter, fold, map, if◌then◌else◌, ⊤}
+use Rattle.log_specs.specs.Line.{Line, On, Down, Over, End}
+use Rattle.bus_specs.specs.Bus.{Bus, Member, among}
+use Rattle.bus_specs.specs.Inbox.{has_inbox}
+use Rattle.world_specs.specs.Units.{Units}
+use Rattle.world_specs.specs.World.{World, Node, Standing, New, Live}
+use Rattle.world_specs.specs.World as world
+use Rattle.world_specs.specs.Next.{What, Finish, Return, Sessions, Start, enabled}
+use Rattle.world_specs.specs.Sessions.{Turn, turns, node_after, takes_part}
+
+abbrev pub IsNewOrLive : {S : Type 0} → Standing S → Type 0
+IsNewOrLive (New s) = ⊤
+IsNewOrLive (Live s last clocks) = ⊤
+IsNewOrLive world.Down = ⊥
+IsNewOrLive world.Over = ⊥
+
+abbrev pub IsDownOrOver : {S : Type 0} → Standing S → Type 0
+IsDownOrOver (New s) = ⊥
+IsDownOrOver (Live s last clocks) = ⊥
+IsDownOrOver world.Down = ⊤
+IsDownOrOver world.Over = ⊤
+
+abbrev pub IsNew : {S : Type 0} → Standing S → Type 0
+IsNew (New s) = ⊤
+IsNew (Live s last clocks) = ⊥
+IsNew world.Down = ⊥
+IsNew world.Over = ⊥
+
+-- a live node has had its last session at this moment
+abbrev pub LastAt : {S : Type 0} → ℕ → Standing S → Type 0
+LastAt t (New s) = ⊥
+LastAt t (Live s last clocks) = last ≡ t
+LastAt t world.Down = ⊤
+LastAt t world.Over = ⊤
+
+abbrev pub IsSessions : What → Type 0
+IsSessions (Finish bus) = ⊥
+IsSessions (Return bus node) = ⊥
+IsSessions Sessions = ⊤
+IsSessions (Start bus) = ⊥
+
+-- nothing that is enabled is before the last event
+abbrev pub NothingIsLate : {S : Type 0} → World S → Type 0
+NothingIsLate w = All (λ e. w.now ≤ e.moment) (enabled w)
+
+-- no mail and no due notice is there for any node
+abbrev pub NothingWaits : ℕ → Bus → Type 0
+NothingWaits t b = (node : ℕ) → has_inbox b t node ≡ false
+
+-- ---- the sessions of one moment, one after another
+
+-- the nodes with the one of this number changed
+abbrev pub with_node : {S : Type 0} → (Node S → Node S) → List (Node S) → ℕ → List (Node S)
+with_node change nodes number = map (λ n. if number == n.number then change n else n) nodes
+
+-- each session from what its node is by then; the buses stay as they were before the event
+abbrev pub nodes_in_order : {S : Type 0} → Units S → List Bus → ℕ → List (Node S) → List ℕ → List (Node S)
+nodes_in_order u buses t nodes order = fold (with_node (node_after u buses t)) nodes order
+
+-- all that take part stand in the order
+abbrev pub Covers : {S : Type 0} → List Bus → ℕ → List (Node S) → List ℕ → Type 0
+Covers buses t nodes order = All (λ n. takes_part buses t n ≡ true → among order n.number ≡ true) nodes
+
+-- the sessions of the nodes of one number
+abbrev pub turns_of : {S : Type 0} → Units S → List Bus → ℕ → List (Node S) → ℕ → List (Turn S)
+turns_of u buses t nodes number = turns u buses t (filter (λ n. number == n.number) nodes)
+
+-- the nodes by now, and the sessions so far
+pub record Progress (S : Type 0) : Type 0 where
+  pub nodes : List (Node S)
+  pub turns : List (Turn S)
+
+abbrev pub one_more : {S : Type 0} → Units S → List Bus → ℕ → Progress S → ℕ → Progress S
+one_more u buses t p number = record { nodes = with_node (node_after u buses t) p.nodes number; turns = p.turns ++ turns_of u buses t p.nodes number }
+
+abbrev pub progress_in_order : {S : Type 0} → Units S → List Bus → ℕ → List (Node S) → List ℕ → Progress S
+progress_in_order u buses t nodes order = fold (one_more u buses t) (record { nodes = nodes; turns = [] }) order

@@ -1,0 +1,33 @@
+//! Which event comes next, and when.
+
+ghost use Rattle.std.specs.Prelude.{◌≡◌, ◌≤◌, ℕ, List, Some};
+ghost use Rattle.bus_specs.specs.Bus.{Bus};
+ghost use Rattle.run_specs.specs.Order.{IsForemost};
+ghost use Rattle.run_specs.specs.Run.{behind};
+ghost use Rattle.world_specs.specs.Units.{Units};
+ghost use Rattle.world_specs.specs.World.{World, Node, opening};
+ghost use Rattle.world_specs.specs.Next.{Event, precedes, enabled, next_event};
+ghost use Rattle.world_specs.specs.Step.{world_behind};
+ghost use Rattle.world_specs.specs.Network.{network};
+ghost use Rattle.world_specs.specs.Fits.{UnitsFit};
+ghost use Rattle.world_laws.specs.Words.{NothingIsLate};
+
+/// Nothing that is enabled comes before the next event, which isn't after the stop.
+pub fn the_next_event_is_foremost<S>()
+    ensures foremost { (stop : ℕ) (w : World S) (e : Event) → next_event stop w ≡ Some e → IsForemost precedes (enabled w) e }
+    ensures within { (stop : ℕ) (w : World S) (e : Event) → next_event stop w ≡ Some e → e.moment ≤ stop }
+{}
+
+/// No event is before the last one, and what is enabled behind an event isn't either.
+pub fn moments_never_fall<S>()
+    ensures forward { (stop : ℕ) (w : World S) (e : Event) → NothingIsLate w → next_event stop w ≡ Some e → w.now ≤ e.moment }
+    ensures behind { (u : Units S) (stop : ℕ) (w : World S) (e : Event) → UnitsFit u → next_event stop w ≡ Some e
+        → NothingIsLate (world_behind u w e) }
+{}
+
+/// Along each run from a network in which nothing is late, as one that opens is, nothing is ever late.
+pub fn nothing_is_ever_late<S>()
+    ensures opening { (buses : List Bus) (nodes : List (Node S)) → NothingIsLate (opening buses nodes) }
+    ensures along { (u : Units S) (stop events : ℕ) (w : World S) → UnitsFit u → NothingIsLate w
+        → NothingIsLate (behind (network u stop) events w) }
+{}

@@ -1,0 +1,15 @@
+//! Laws of networks: each is the contract of a function with an empty body.
+#![tactic(auto)]
+
+mod events;
+mod nodes;
+mod orders;
+
+pub use events::{moments_never_fall, nothing_is_ever_late, the_next_event_is_foremost};
+pub use nodes::{
+    only_who_takes_part_changes, others_have_no_session, sessions_join, who_is_out_stays_out,
+};
+pub use orders::{
+    any_order_gives_the_same_nodes, each_session_is_from_the_state_before,
+    two_orders_give_the_same_nodes,
+};
