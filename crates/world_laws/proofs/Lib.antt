@@ -9,3 +9,5 @@ pub mod Calls
 pub mod Lives
 pub mod Calm
 pub mod Sounded
+pub mod Dues
+pub mod Fitting
