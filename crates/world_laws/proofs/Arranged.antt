@@ -1,13 +1,12 @@
 -- Sessions one after another in any order.
-use Rattle.std.proofs.Common.{◌≡◌, ℕ, ◌==◌, ◌||◌, Bool, true, false, if◌then◌else◌, List, [], ◌∷◌, ◌++◌, filter, fold, map, Option, Some, None, refl, sym, ap, ◌∙◌, subst, append_assoc, append-nil}
+use Rattle.std.proofs.Common.{◌≡◌, ℕ, ◌==◌, ◌||◌, Bool, true, false, if◌then◌else◌, List, [], ◌∷◌, ◌++◌, filter, fold, map, refl, sym, ap, ◌∙◌, subst, append_assoc, append-nil}
 use Rattle.std.specs.List.{flat_map}
 use Rattle.std.proofs.lemmas.Bool.{eqb-true, eqb-false, ne_eqb, or_parts}
 use Rattle.bus_specs.specs.Bus.{Bus, among}
-use Rattle.bus_sound.proofs.Among.{Among}
 use Rattle.bus_sound.proofs.Lists.{each-All}
 use Rattle.world_specs.specs.Units.{Units}
 use Rattle.world_specs.specs.World.{AreDistinct, Node}
-use Rattle.world_specs.specs.Sessions.{takes_part, Turn, node_after}
+use Rattle.world_specs.specs.Sessions.{takes_part, node_after}
 use Rattle.world_laws.specs.Words.{Covers, with_node, nodes_in_order, turns_of, Progress, one_more, progress_in_order}
 use Rattle.world_laws.proofs.Lists.{map-map, map-same, map-id}
 use Rattle.world_laws.proofs.Changed.{number-stays, not-called-stays}

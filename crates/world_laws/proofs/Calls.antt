@@ -1,7 +1,6 @@
 -- What a call of the medium in a session does to a bus: it changes the members one by one, and no frame.
-use Rattle.std.proofs.Common.{◌≡◌, ◌≤◌, ◌<◌, ℕ, ◌+◌, ◌*◌, ◌==◌, ◌||◌, ◌⊎◌, Bool, true, false, if◌then◌else◌, List, [], ◌∷◌, map, fold, nat_le, Option, Some, None, is_some, arith, sym, refl, ap, ◌∙◌, subst, inl, inr}
+use Rattle.std.proofs.Common.{◌≡◌, ◌≤◌, ◌<◌, ℕ, ◌+◌, ◌==◌, ◌||◌, ◌⊎◌, Bool, true, false, if◌then◌else◌, List, [], ◌∷◌, map, fold, nat_le, Option, Some, None, is_some, arith, sym, refl, ap, ◌∙◌, subst, inl, inr}
 use Rattle.std.proofs.lemmas.Bool.{both_ways, lt-leb, or_cases, or_left, or_right}
-use Rattle.frame_specs.specs.Frame.{Frame}
 use Rattle.operation_specs.specs.Reading.{Item}
 use Rattle.log_specs.specs.Line.{Line}
 use Rattle.session_specs.specs.Outcome.{End}

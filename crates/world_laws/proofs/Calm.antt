@@ -1,20 +1,20 @@
 -- Behind the sessions of a moment no mail and no due notice is left.
-use Rattle.std.proofs.Common.{◌≡◌, ◌≤◌, ℕ, ◌==◌, ◌&&◌, ◌||◌, ◌⊎◌, Bool, true, false, if◌then◌else◌, List, [], ◌∷◌, ◌++◌, map, filter, fold, Option, Some, None, option_map, is_some, All, sym, refl, ap, ◌∙◌, subst, inl, inr, eq-eqb}
+use Rattle.std.proofs.Common.{◌≡◌, ◌≤◌, ℕ, ◌==◌, ◌&&◌, ◌||◌, Bool, true, false, if◌then◌else◌, List, [], ◌∷◌, fold, Option, Some, None, option_map, is_some, sym, refl, ap, ◌∙◌, subst, inl, inr, eq-eqb}
 use Rattle.std.specs.List.{cons_option, list_any}
 use Rattle.std.proofs.lemmas.Bool.{both_ways, eqb-true, eqb-false, or_right, and_parts, false_from_ne_true}
-use Rattle.session_specs.specs.Outcome.{SessionOut, End}
-use Rattle.bus_specs.specs.Bus.{Bus, Member, member_is}
+use Rattle.session_specs.specs.Outcome.{SessionOut}
+use Rattle.bus_specs.specs.Bus.{Bus, Member}
 use Rattle.bus_specs.specs.Inbox.{has_inbox, has_notice, members_at, take_inbox, member_after_inbox}
 use Rattle.bus_specs.specs.Sound.{Sound, SoundMember, HasNothing}
 use Rattle.bus_sound.proofs.Among.{Among, among-filter, filter-among}
-use Rattle.bus_sound.proofs.Lists.{All-each, each-All, any_from, any_to, map-among}
+use Rattle.bus_sound.proofs.Lists.{each-All, any_from, any_to, map-among}
 use Rattle.world_specs.specs.Units.{Units}
 use Rattle.world_specs.specs.World.{Node, Standing, New, Live, Down, Over}
-use Rattle.world_specs.specs.Sessions.{Turn, turn_of, turns, ticks, is_called, takes_part, session_from, session_of, given_to, emission_step, items_on}
+use Rattle.world_specs.specs.Sessions.{Turn, turn_of, turns, ticks, is_called, takes_part, session_from, given_to, emission_step, items_on}
 use Rattle.world_specs.specs.Fits.{is_live, is_live_node, IsJoined}
 use Rattle.world_laws.specs.Words.{NothingWaits}
-use Rattle.world_laws.proofs.OneBus.{entry, by_end, turn_on, turns_on}
-use Rattle.world_laws.proofs.Calls.{holds, Call, WasMember, was-member, taken-holds, entries-call, items-call, end-call, as_it_was, end_live, entries_live, take-call}
+use Rattle.world_laws.proofs.OneBus.{entry, turn_on, turns_on}
+use Rattle.world_laws.proofs.Calls.{holds, Call, was-member, taken-holds, entries-call, items-call, end-call, as_it_was, end_live, entries_live, take-call}
 
 -- a turn of this number
 pub record OneOf {S : Type 0} (xs : List (Turn S)) (k : ℕ) : Type 0 where

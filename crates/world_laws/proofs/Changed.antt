@@ -1,5 +1,5 @@
 -- What an event does to the nodes.
-use Rattle.std.proofs.Common.{◌≡◌, ℕ, zero, suc, Bool, true, false, if◌then◌else◌, List, [], ◌∷◌, All, slice_get, option_map, Option, Some, None, refl, ap, sym, subst, inl, inr}
+use Rattle.std.proofs.Common.{◌≡◌, ℕ, zero, suc, Bool, true, false, List, [], ◌∷◌, All, slice_get, option_map, Option, Some, None, refl, ap, sym, subst, inl, inr}
 use Rattle.std.specs.List.{cons_option}
 use Rattle.run_specs.specs.Run.{then_from, behind}
 use Rattle.session_specs.specs.Outcome.{SessionOut, End}

@@ -1,5 +1,5 @@
 -- What is due on a bus, by what it is due for; and what the next event of a network says of its bus.
-use Rattle.std.proofs.Common.{◌≡◌, ◌<◌, ◌≤◌, ℕ, ◌==◌, ◌⊎◌, Bool, true, false, max, List, [], ◌∷◌, ◌++◌, map, filter, flat_map, filter_map, Option, Some, None, is_some, arith, sym, refl, ap, ◌∙◌, subst, inl, inr}
+use Rattle.std.proofs.Common.{◌≡◌, ◌<◌, ◌≤◌, ℕ, ◌⊎◌, true, false, max, ◌++◌, map, filter, flat_map, filter_map, Option, Some, None, is_some, arith, sym, refl, ap, ◌∙◌, subst, inl, inr}
 use Rattle.std.specs.Prelude.{option_map}
 use Rattle.std.proofs.lemmas.Bool.{both_ways}
 use Rattle.bus_specs.specs.Bus.{Bus, Member, Running, wants, ready_moment}
@@ -10,8 +10,8 @@ use Rattle.bus_sound.proofs.Among.{Among, filter-among, among-filter, filter_map
 use Rattle.bus_sound.proofs.Lists.{map-among, among-map, append-among, among-append_right, flat_map-among, among-flat_map}
 use Rattle.bus_sound.proofs.Orders.{foremost-some, foremost-among, foremost-unbeaten}
 use Rattle.bus_sound.proofs.Dues.{not-before, precedes-order}
-use Rattle.world_specs.specs.World.{World, AreDistinct, Node, Standing, New, Live, Down, Over}
-use Rattle.world_specs.specs.Next.{What, Finish, Return, Sessions, Start, Event, at, what_of, event_of, rank, comes_before, precedes, of_standing, enabled, next_event}
+use Rattle.world_specs.specs.World.{World, AreDistinct, Standing, New, Live, Down, Over}
+use Rattle.world_specs.specs.Next.{What, Finish, Return, Sessions, Start, Event, at, what_of, event_of, rank, comes_before, precedes, of_standing, next_event}
 use Rattle.world_laws.proofs.Lists.{one-of-number}
 use Rattle.world_laws.proofs.Order.{next-among, next-unbeaten, no-earlier, strictly-later}
 use Rattle.world_laws.proofs.Sources.{Source, OfBus, OfMail, OfNode, source, due-enabled}

@@ -1,6 +1,6 @@
 -- Each event keeps what holds of a network in every state.
-use Rattle.std.proofs.Common.{◌≡◌, ◌≤◌, ◌<◌, ◌⊎◌, ℕ, ◌+◌, ◌*◌, ◌==◌, ◌&&◌, ◌||◌, not, Bool, true, false, if◌then◌else◌, List, [], ◌∷◌, ◌++◌, map, filter, sum, replicate, Option, Some, None, IfSome, All, is_some, arith, sym, refl, ap, ◌∙◌, subst, inl, inr, eq-eqb}
-use Rattle.std.specs.List.{cons_option, list_any}
+use Rattle.std.proofs.Common.{◌≡◌, ◌≤◌, ◌<◌, ◌⊎◌, ℕ, ◌+◌, ◌*◌, ◌==◌, ◌&&◌, not, Bool, true, false, if◌then◌else◌, List, [], ◌∷◌, ◌++◌, map, filter, sum, replicate, Option, Some, None, IfSome, All, is_some, arith, sym, refl, ap, ◌∙◌, subst, inl, inr, eq-eqb}
+use Rattle.std.specs.List.{cons_option}
 use Rattle.std.proofs.lemmas.Bool.{both_ways, cases_lt, eqb-true, and_from, or_parts}
 use Rattle.bus_specs.specs.Inbox.{has_notice}
 use Rattle.std.proofs.lemmas.List.Sums.{sum_by-append}
@@ -14,10 +14,9 @@ use Rattle.bus_specs.specs.Bus.{Bus, Setup, Member, Running, Request, Hurt, Erro
 use Rattle.bus_specs.specs.Start.{start, start_with, member_after_start, discarded, Course, course, course_with, course_of_frame, only_hurts, node_of_entry, entry_of_attempt, listeners}
 use Rattle.bus_specs.specs.Finish.{finish, finish_with, member_after_finish, recover, member_after_return}
 use Rattle.bus_specs.specs.Sound.{Sound}
-use Rattle.bus_specs.specs.InTime.{InTime}
 use Rattle.bus_sound.proofs.Among.{Among}
 use Rattle.bus_sound.proofs.Lists.{All-each, each-All, map-among, any_from}
-use Rattle.bus_sound.proofs.Members.{Is, is_from, is_to}
+use Rattle.bus_sound.proofs.Members.{is_from, is_to}
 use Rattle.bus_sound.proofs.Steady.{Steady, start-steady, finish-steady, recover-steady, steady-member}
 use Rattle.bus_sound.proofs.Quiet.{recover-sound}
 use Rattle.bus_sound.proofs.Finished.{finish-sound}
@@ -25,19 +24,19 @@ use Rattle.bus_sound.proofs.Started.{start-sound}
 use Rattle.world_specs.specs.Units.{Units}
 use Rattle.world_specs.specs.World.{World, AreDistinct, Node, Standing, New, Live, Down, Over}
 use Rattle.world_specs.specs.Next.{What, Finish, Return, Sessions, Start, Event, at, precedes, next_event}
-use Rattle.world_specs.specs.Sessions.{Turn, turn_of, turns, is_new, takes_part, is_called, session_from, session_of, given_to, node_behind, node_after, standing_after}
+use Rattle.world_specs.specs.Sessions.{Turn, turn_of, turns, is_new, takes_part, session_from, session_of, given_to, node_behind, node_after, standing_after}
 use Rattle.world_specs.specs.Step.{outcome_of, world_behind}
 use Rattle.world_specs.specs.Network.{network}
-use Rattle.world_specs.specs.Fits.{UnitsFit, AreBytes, LastBy, LastBefore, ClocksFrom, is_live, is_live_node, AllBefore, EndsBehind, MailBehind, IsJoined, IsAttached, Fits}
+use Rattle.world_specs.specs.Fits.{UnitsFit, AreBytes, LastBy, LastBefore, is_live, is_live_node, AllBefore, EndsBehind, MailBehind, IsJoined, IsAttached, Fits}
 use Rattle.world_laws.specs.Words.{NothingWaits}
 use Rattle.world_laws.proofs.Lists.{map-map, map-same, all-map, all-more}
 use Rattle.world_laws.proofs.Order.{no-earlier, strictly-later, next-unbeaten}
-use Rattle.world_laws.proofs.Changed.{IsTurn, turn-is, turn-among, number-stays, buses-stay, along}
+use Rattle.world_laws.proofs.Changed.{turn-is, turn-among, number-stays, buses-stay, along}
 use Rattle.world_laws.proofs.Sources.{due-enabled, mail-enabled}
 use Rattle.world_laws.proofs.OneBus.{turns_on, bus_behind, buses-behind, each-bus}
 use Rattle.world_laws.proofs.Timed.{AllFrom, to-enabled, outcome-from, all-from-next, forward}
-use Rattle.world_laws.proofs.Dues.{end-due, OwnEnd, own-end, own-start}
-use Rattle.world_laws.proofs.Calls.{Call, WasMember, was-member, holds, turns-call, entries_live, ends_live}
+use Rattle.world_laws.proofs.Dues.{end-due, own-end, own-start}
+use Rattle.world_laws.proofs.Calls.{Call, holds, turns-call, entries_live, ends_live}
 use Rattle.world_laws.proofs.Lives.{turn-numbers, node-numbers, turns-joined}
 use Rattle.world_laws.proofs.Calm.{turns-calm, no-inbox}
 use Rattle.world_laws.proofs.Sounded.{Differ, MayTurn, turns-sound}
@@ -76,8 +75,12 @@ one-steady : (q : Bool) (b after : Bus) → Steady b after → ((if q then after
 one-steady true b after s = (s.setup, λ node h. steady-member b after node s h)
 one-steady false b after s = (refl, λ node h. h)
 
+-- the live flag of a member behind the sessions of a moment
+abbrev pub sessions_live : {S : Type 0} → Units S → World S → ℕ → ℕ → Bool → Bool
+sessions_live u w t n live = ends_live (turns u w.buses t w.nodes) n (entries_live (turns u w.buses t w.nodes) n live)
+
 module _ {S : Type 0} (u : Units S) (w : World S) (t : ℕ) where
-  sessions-call : (b : Bus) → 1 ≤ b.setup.nominal → Call t (λ n live. ends_live (turns u w.buses t w.nodes) n (entries_live (turns u w.buses t w.nodes) n live)) b (turns_on t (turns u w.buses t w.nodes) b)
+  pub sessions-call : (b : Bus) → 1 ≤ b.setup.nominal → Call t (sessions_live u w t) b (turns_on t (turns u w.buses t w.nodes) b)
   sessions-call b p = turns-call t (turns u w.buses t w.nodes) b p
 
   pub setup-stays : (k : What) (b : Bus) → 1 ≤ b.setup.nominal → (bus_behind u w t k b).setup ≡ b.setup
@@ -145,7 +148,7 @@ module _ {S : Type 0} (u : Units S) (w : World S) (h : Fits w) where
       go (Start bus) = old
       go Sessions = all-map (λ n. LastBy t n.standing) (λ n. LastBy t n.standing) (node_after u w.buses t) w.nodes (λ n a i. by-session n (session_of u w.buses t n) i) old
 
-  bits-of : (b : Bus) → Among w.buses b → 1 ≤ b.setup.nominal
+  pub bits-of : (b : Bus) → Among w.buses b → 1 ≤ b.setup.nominal
   bits-of b a = each-All (λ b. 1 ≤ b.setup.nominal) w.buses b h.bits a
 
   has-bits : (t : ℕ) (k : What) → All (λ b. 1 ≤ b.setup.nominal) (outcome_of u w t k).buses
@@ -304,7 +307,7 @@ module _ {S : Type 0} (u : Units S) (w : World S) (h : Fits w) where
 
   -- ---- ends and mail
 
-  calm-bus : (t : ℕ) (b : Bus) → Among w.buses b → (m : Member) → Among (turns_on t (turns u w.buses t w.nodes) b).members m → holds t m ≡ false
+  pub calm-bus : (t : ℕ) (b : Bus) → Among w.buses b → (m : Member) → Among (turns_on t (turns u w.buses t w.nodes) b).members m → holds t m ≡ false
   calm-bus t b a = turns-calm u w.buses t w.nodes b a (bits-of b a) (each-All Sound w.buses b h.sound a) (each-All (IsJoined w.nodes) w.buses b h.joined a)
 
   pub nothing-waits : (t : ℕ) → All (NothingWaits t) (outcome_of u w t Sessions).buses
@@ -339,7 +342,7 @@ module _ {S : Type 0} (u : Units S) (w : World S) (h : Fits w) where
       none : next_event stop w ≡ Some (at Sessions t) → (b : Bus) → Among w.buses b → (r : Running) → b.running ≡ Some r → r.end ≡ t → ⊥
       none n b a r e q =
           let m = strictly-later (at Sessions t) (at (Finish b.setup.number) r.end)
-              (next-unbeaten stop w (at Sessions t) (at (Finish b.setup.number) r.end) n (due-enabled w b _ a (end-due b w.now r e))) refl in
+          (next-unbeaten stop w (at Sessions t) (at (Finish b.setup.number) r.end) n (due-enabled w b _ a (end-due b w.now r e))) refl in
           omega (arith, q, m)
 
       go : (k : What) → next_event stop w ≡ Some (at k t) → (b : Bus) → Among w.buses b → EndsBehind t (outcome_of u w t k).nodes (bus_behind u w t k b)
@@ -375,7 +378,7 @@ module _ {S : Type 0} (u : Units S) (w : World S) (h : Fits w) where
   mail-same true P b after s k m a e = let r = s m a in k r.0 r.1 (subst (λ o. is_some o ≡ true) (sym r.2) e)
   mail-same false P b after s k m a e = k m a e
 
-  start-mail : (t : ℕ) (b : Bus) (m : Member) → Among (start b t).0.members m → (x : Member) × Among b.members x × (x.mail ≡ m.mail)
+  pub start-mail : (t : ℕ) (b : Bus) (m : Member) → Among (start b t).0.members m → (x : Member) × Among b.members x × (x.mail ≡ m.mail)
   unfolding start
   start-mail t b m a = go (winner b t) a
     where

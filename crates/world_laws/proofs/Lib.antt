@@ -11,3 +11,6 @@ pub mod Calm
 pub mod Sounded
 pub mod Dues
 pub mod Fitting
+pub mod Follows
+pub mod Opens
+pub mod Left

@@ -1,7 +1,7 @@
 -- Lists, place by place and element by element.
-use Rattle.std.proofs.Common.{◌≡◌, ℕ, zero, suc, ◌==◌, ◌||◌, Bool, true, false, List, [], ◌∷◌, ◌++◌, map, slice_get, option_map, All, sym, refl, ap, ◌∙◌, subst, inl, inr, eq-eqb}
+use Rattle.std.proofs.Common.{◌≡◌, ℕ, zero, suc, ◌==◌, true, false, List, [], ◌∷◌, map, slice_get, option_map, All, sym, refl, ap, ◌∙◌, subst, inl, inr, eq-eqb}
 use Rattle.std.specs.List.{AllByRecursion}
-use Rattle.std.proofs.lemmas.Bool.{or_parts, or_left, or_right, or_cases, both_ways, eqb-true, eqb-false, ne_eqb}
+use Rattle.std.proofs.lemmas.Bool.{or_left, or_right, both_ways}
 use Rattle.bus_specs.specs.Bus.{among}
 use Rattle.world_specs.specs.World.{AreDistinct}
 use Rattle.bus_sound.proofs.Among.{Among}

@@ -1,20 +1,20 @@
 -- Behind the sessions of a moment a member is live exactly where it is a live node.
-use Rattle.std.proofs.Common.{◌≡◌, ◌≤◌, ℕ, ◌==◌, ◌&&◌, ◌||◌, ◌⊎◌, Bool, true, false, if◌then◌else◌, List, [], ◌∷◌, map, fold, Option, Some, None, option_map, All, sym, refl, ap, ◌∙◌, subst, inl, inr, eq-eqb}
-use Rattle.std.specs.List.{cons_option, list_any}
-use Rattle.std.proofs.lemmas.Bool.{both_ways, eqb-true, eqb-false, ne_eqb, or_parts}
+use Rattle.std.proofs.Common.{◌≡◌, ◌≤◌, ℕ, ◌==◌, ◌||◌, Bool, true, false, if◌then◌else◌, List, [], ◌∷◌, map, Option, Some, None, option_map, sym, refl, ap, ◌∙◌, subst, inl, inr, eq-eqb}
+use Rattle.std.specs.List.{cons_option}
+use Rattle.std.proofs.lemmas.Bool.{eqb-true, eqb-false, ne_eqb, or_parts}
 use Rattle.session_specs.specs.Outcome.{SessionOut, End}
 use Rattle.session_specs.specs.Outcome as session
-use Rattle.bus_specs.specs.Bus.{Bus, Member, among}
+use Rattle.bus_specs.specs.Bus.{Bus, among}
 use Rattle.bus_sound.proofs.Among.{Among}
 use Rattle.bus_sound.proofs.Lists.{All-each, each-All}
 use Rattle.world_specs.specs.Units.{Units}
-use Rattle.world_specs.specs.World.{World, AreDistinct, Node, Standing, New, Live, Down, Over}
-use Rattle.world_specs.specs.Sessions.{Turn, turn_of, turns, is_new, is_called, takes_part, session_from, session_of, given_to, node_behind, node_after, standing_after}
+use Rattle.world_specs.specs.World.{AreDistinct, Node, Standing, New, Live, Down, Over}
+use Rattle.world_specs.specs.Sessions.{Turn, turn_of, turns, is_new, takes_part, session_from, session_of, node_behind, node_after, standing_after}
 use Rattle.world_specs.specs.Fits.{is_live, is_live_node, IsJoined}
 use Rattle.world_laws.proofs.Lists.{not-among}
-use Rattle.world_laws.proofs.Changed.{IsTurn, turn-among, number-stays, not-called-stays}
+use Rattle.world_laws.proofs.Changed.{turn-among, number-stays}
 use Rattle.world_laws.proofs.OneBus.{turns_on}
-use Rattle.world_laws.proofs.Calls.{at_node, entry_live, end_live, entries_live, ends_live, Call, WasMember, was-member, turns-call}
+use Rattle.world_laws.proofs.Calls.{entry_live, end_live, entries_live, ends_live, was-member, turns-call}
 
 module _ {S : Type 0} (k : ℕ) where
   -- no turn of this number

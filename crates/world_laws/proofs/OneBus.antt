@@ -1,5 +1,5 @@
 -- In an event each bus goes its own way: the buses behind it are a map of those before it.
-use Rattle.std.proofs.Common.{◌≡◌, ℕ, ◌==◌, Bool, true, false, if◌then◌else◌, List, [], ◌∷◌, map, fold, All, sym, refl, ap, ◌∙◌, subst}
+use Rattle.std.proofs.Common.{◌≡◌, ℕ, ◌==◌, Bool, true, false, if◌then◌else◌, List, [], ◌∷◌, map, fold, All, sym, refl, ap, ◌∙◌}
 use Rattle.log_specs.specs.Line.{Line}
 use Rattle.operation_specs.specs.Reading.{Item}
 use Rattle.session_specs.specs.Outcome.{End}
@@ -11,7 +11,7 @@ use Rattle.bus_specs.specs.Submit.{Submission, submission_of, submit}
 use Rattle.bus_specs.specs.Inbox.{take_inbox, enter, leave}
 use Rattle.bus_sound.proofs.Among.{Among}
 use Rattle.world_specs.specs.Units.{Units}
-use Rattle.world_specs.specs.World.{World, Node}
+use Rattle.world_specs.specs.World.{World}
 use Rattle.world_specs.specs.Next.{What, Finish, Return, Sessions, Start}
 use Rattle.world_specs.specs.Sessions.{Turn, turns, is_new, with_entered, on_each_bus, items_on, submission_step, emission_step, end_step, turn_step, turns_step}
 use Rattle.world_specs.specs.Step.{outcome_of}

@@ -1,11 +1,11 @@
 -- The order of events is an order, and what it says of the next event.
-use Rattle.std.proofs.Common.{◌≡◌, ◌<◌, ◌≤◌, ◌⊎◌, if◌then◌else◌, nat_le, ℕ, ◌==◌, ◌&&◌, ◌||◌, Bool, true, false, List, [], ◌∷◌, nat_lt, Option, Some, None, arith, sym, refl, ap, ◌∙◌, inl, inr, eq-eqb}
+use Rattle.std.proofs.Common.{◌≡◌, ◌<◌, ◌≤◌, ◌⊎◌, if◌then◌else◌, nat_le, ℕ, ◌==◌, ◌&&◌, ◌||◌, Bool, true, false, List, [], ◌∷◌, nat_lt, Option, Some, None, arith, sym, refl, ap, ◌∙◌, subst, inl, inr, eq-eqb}
 use Rattle.std.proofs.lemmas.Bool.{lt-ltb, le-ltb, ne_eqb, cases_lt, both_ways, false_from_ne_true, true_from_ne_false, leb-true}
 use Rattle.run_specs.specs.Order.{IsForemost, foremost}
 use Rattle.bus_sound.proofs.Among.{Among}
 use Rattle.bus_sound.proofs.Orders.{IsOrder, foremost-is, foremost-among, foremost-unbeaten}
 use Rattle.world_specs.specs.World.{World}
-use Rattle.world_specs.specs.Next.{What, Event, at, rank, comes_before, precedes, enabled, up_to, next_event}
+use Rattle.world_specs.specs.Next.{Event, rank, comes_before, precedes, enabled, up_to, next_event}
 
 abbrev pub key : Event → List ℕ
 key e = e.moment ∷ rank e.what
@@ -138,6 +138,18 @@ strictly-later e f h r = go (compared f.moment e.moment (comes_before (rank f.wh
     go (Lower l d) = absurd (both_ways (precedes f e) h d)
     go (Same l d) = absurd (both_ways (precedes f e) h (d ∙ r))
     go (Higher l d) = l
+
+-- of two of one rank, the one that comes before is earlier
+nothing-between : (ns : List ℕ) → comes_before ns ns ≡ false
+nothing-between ns = false_from_ne_true (comes_before ns ns) (λ h. both_ways (comes_before ns ns) (one_way ns ns h) h)
+
+pub strictly-before : (e f : Event) → precedes e f ≡ true → rank f.what ≡ rank e.what → e.moment < f.moment
+strictly-before e f h r = go (compared e.moment f.moment (comes_before (rank e.what) (rank f.what)))
+  where
+    go : Compared e.moment f.moment (comes_before (rank e.what) (rank f.what)) → e.moment < f.moment
+    go (Lower l d) = l
+    go (Same l d) = absurd (both_ways (comes_before (rank e.what) (rank f.what)) (subst (λ ns. comes_before (rank e.what) ns ≡ false) (sym r) (nothing-between (rank e.what))) (sym d ∙ h))
+    go (Higher l d) = absurd (both_ways (precedes e f) d h)
 
 -- ---- the next event
 

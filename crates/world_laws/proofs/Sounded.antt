@@ -1,7 +1,6 @@
 -- The sessions of a moment keep each bus sound.
-use Rattle.std.proofs.Common.{◌≡◌, ◌≤◌, ◌<◌, ℕ, zero, suc, ◌==◌, ◌||◌, ◌⊎◌, Bool, true, false, if◌then◌else◌, List, [], ◌∷◌, map, fold, slice_get, Option, Some, None, All, sym, refl, ap, ◌∙◌, subst, inl, inr, eq-eqb}
-use Rattle.std.specs.List.{AllByRecursion, list_any}
-use Rattle.std.proofs.lemmas.Bool.{both_ways, eqb-true, ne_eqb}
+use Rattle.std.proofs.Common.{◌≡◌, ◌≤◌, ◌<◌, ℕ, zero, suc, ◌==◌, ◌||◌, ◌⊎◌, Bool, true, false, if◌then◌else◌, List, [], ◌∷◌, map, fold, slice_get, All, sym, refl, ap, ◌∙◌, subst, inl, inr, eq-eqb}
+use Rattle.std.proofs.lemmas.Bool.{ne_eqb}
 use Rattle.log_specs.specs.Line.{Line}
 use Rattle.operation_specs.specs.Reading.{Item, IsWhole}
 use Rattle.bus_ops.specs.ItemsIn.{items_in}
@@ -10,11 +9,11 @@ use Rattle.session_specs.specs.Outcome.{Emission, SessionOut, End}
 use Rattle.session_specs.specs.Outcome as session
 use Rattle.bus_specs.specs.Bus.{Bus, Member, Setup, is, among, member_is}
 use Rattle.bus_specs.specs.Submit.{submission_of}
-use Rattle.bus_specs.specs.Inbox.{take_inbox, enter, leave}
+use Rattle.bus_specs.specs.Inbox.{take_inbox, enter}
 use Rattle.bus_specs.specs.Sound.{Sound}
 use Rattle.bus_sound.proofs.Among.{Among}
-use Rattle.bus_sound.proofs.Lists.{All-each, each-All, flat_map-among, any_from}
-use Rattle.bus_sound.proofs.Members.{Is, is_from, is_to}
+use Rattle.bus_sound.proofs.Lists.{each-All, flat_map-among}
+use Rattle.bus_sound.proofs.Members.{is_from, is_to}
 use Rattle.bus_sound.proofs.Quiet.{enter-sound, take_inbox-sound}
 use Rattle.bus_sound.proofs.Left.{leave-sound}
 use Rattle.bus_sound.proofs.Submitted.{submit-sound, submission_of-fits}
@@ -22,7 +21,7 @@ use Rattle.world_specs.specs.Sessions.{Turn, is_new, items_at, items_on, submiss
 use Rattle.world_specs.specs.Fits.{AreBytes}
 use Rattle.world_laws.proofs.Lists.{by-recursion, of-recursion}
 use Rattle.world_laws.proofs.OneBus.{entry, by_end, turn_on, turns_on}
-use Rattle.world_laws.proofs.Calls.{Call, WasMember, was-member, as_it_was, end_live, entries_live, entries-call, submit-call, take-call, end-call, emitted-call}
+use Rattle.world_laws.proofs.Calls.{Call, was-member, as_it_was, end_live, entries_live, entries-call, submit-call, take-call, end-call, emitted-call}
 
 -- ---- what is emitted on a bus
 

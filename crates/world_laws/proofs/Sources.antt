@@ -1,5 +1,5 @@
 -- What is enabled comes from a bus, from mail, or from a node.
-use Rattle.std.proofs.Common.{◌≡◌, ℕ, Bool, true, false, List, ◌++◌, map, filter, sym, refl, ap, ◌∙◌, subst, inl, inr, ◌⊎◌}
+use Rattle.std.proofs.Common.{◌≡◌, true, map, filter, inl, inr, ◌⊎◌}
 use Rattle.std.specs.Prelude.{is_some, flat_map}
 use Rattle.bus_specs.specs.Bus.{Bus, Member}
 use Rattle.bus_specs.specs.Due.{Due, dues}

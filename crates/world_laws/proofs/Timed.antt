@@ -1,5 +1,5 @@
 -- Moments never fall: what is still to happen isn't before the last event.
-use Rattle.std.proofs.Common.{◌≡◌, ◌≤◌, ◌<◌, ℕ, ◌==◌, ◌⊎◌, Bool, true, false, if◌then◌else◌, List, [], ◌∷◌, map, filter_map, Option, Some, None, IfSome, All, is_some, arith, sym, refl, ap, ◌∙◌, subst, inl, inr}
+use Rattle.std.proofs.Common.{◌≡◌, ◌≤◌, ◌<◌, ℕ, ◌==◌, ◌⊎◌, Bool, true, false, if◌then◌else◌, List, [], ◌∷◌, filter_map, Option, Some, None, IfSome, All, is_some, arith, sym, refl, ap, ◌∙◌, subst, inl, inr}
 use Rattle.std.proofs.lemmas.Bool.{both_ways}
 use Rattle.session_specs.specs.Outcome.{SessionOut, DueChange, Keep, Clear, At, End}
 use Rattle.session_specs.specs.Outcome as session
@@ -18,12 +18,12 @@ use Rattle.bus_sound.proofs.Later.{later}
 use Rattle.world_specs.specs.Units.{Units}
 use Rattle.world_specs.specs.World.{World, Node, Standing, New, Live, Down, Over, opening}
 use Rattle.world_specs.specs.Next.{What, Finish, Return, Sessions, Start, Event, at, event_of, of_standing, enabled, next_event}
-use Rattle.world_specs.specs.Sessions.{Turn, turns, ticks, given_to, session_from, session_of, takes_part, clock_after, clocks_after, clocks_of, standing_after, node_behind, node_after}
+use Rattle.world_specs.specs.Sessions.{turns, ticks, given_to, session_from, takes_part, clock_after, clocks_after, clocks_of, standing_after, node_behind, node_after}
 use Rattle.world_specs.specs.Step.{outcome_of, world_behind}
 use Rattle.world_specs.specs.Network.{network}
 use Rattle.world_specs.specs.Fits.{IsSetBehind, UnitsFit, ClocksFrom}
 use Rattle.world_laws.specs.Words.{NothingIsLate}
-use Rattle.world_laws.proofs.Lists.{all-map, all-more}
+use Rattle.world_laws.proofs.Lists.{all-map}
 use Rattle.world_laws.proofs.Order.{no-earlier, next-among, next-unbeaten}
 use Rattle.world_laws.proofs.Sources.{Source, OfBus, OfMail, OfNode, source, due-enabled, node-enabled}
 use Rattle.world_laws.proofs.OneBus.{bus_behind, each-bus, Kept, turns-kept}

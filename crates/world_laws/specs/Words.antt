@@ -1,7 +1,7 @@
 -- The words of the laws of networks.
 use Rattle.std.specs.Prelude.{◌≡◌, ◌≤◌, ℕ, ◌==◌, true, false, All, List, [], ◌++◌, filter, fold, map, if◌then◌else◌, ⊤}
-use Rattle.log_specs.specs.Line.{Line, On, Down, Over, End}
-use Rattle.bus_specs.specs.Bus.{Bus, Member, among}
+use Rattle.bus_specs.specs.Bus.{Bus, among, has_request}
+use Rattle.bus_specs.specs.Sound.{HasNothing}
 use Rattle.bus_specs.specs.Inbox.{has_inbox}
 use Rattle.world_specs.specs.Units.{Units}
 use Rattle.world_specs.specs.World.{World, Node, Standing, New, Live}
@@ -76,3 +76,8 @@ one_more u buses t p number = record { nodes = with_node (node_after u buses t) 
 
 abbrev pub progress_in_order : {S : Type 0} → Units S → List Bus → ℕ → List (Node S) → List ℕ → Progress S
 progress_in_order u buses t nodes order = fold (one_more u buses t) (record { nodes = nodes; turns = [] }) order
+
+-- the node has no request on this bus, no notice and no mail
+pub record IsLeft (node : ℕ) (b : Bus) : Type 0 where
+  pub requests : has_request b.requests node ≡ false
+  pub members : All (λ m. m.node ≡ node → HasNothing m) b.members
