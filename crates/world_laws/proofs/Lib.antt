@@ -14,3 +14,4 @@ pub mod Fitting
 pub mod Follows
 pub mod Opens
 pub mod Left
+pub mod Lined

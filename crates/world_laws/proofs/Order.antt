@@ -1,11 +1,12 @@
 -- The order of events is an order, and what it says of the next event.
-use Rattle.std.proofs.Common.{◌≡◌, ◌<◌, ◌≤◌, ◌⊎◌, if◌then◌else◌, nat_le, ℕ, ◌==◌, ◌&&◌, ◌||◌, Bool, true, false, List, [], ◌∷◌, nat_lt, Option, Some, None, arith, sym, refl, ap, ◌∙◌, subst, inl, inr, eq-eqb}
-use Rattle.std.proofs.lemmas.Bool.{lt-ltb, le-ltb, ne_eqb, cases_lt, both_ways, false_from_ne_true, true_from_ne_false, leb-true}
+use Rattle.std.proofs.Common.{◌≡◌, ◌<◌, ◌≤◌, ◌⊎◌, if◌then◌else◌, nat_le, ℕ, ◌==◌, ◌&&◌, ◌||◌, Bool, true, false, List, [], ◌∷◌, nat_lt, Option, Some, None, All, Contains, is_some, arith, sym, refl, ap, ◌∙◌, subst, inl, inr, eq-eqb}
+use Rattle.std.proofs.lemmas.Bool.{lt-ltb, le-ltb, le-leb, leb-false, ne_eqb, cases_lt, both_ways, false_from_ne_true, true_from_ne_false, leb-true}
 use Rattle.run_specs.specs.Order.{IsForemost, foremost}
-use Rattle.bus_sound.proofs.Among.{Among}
-use Rattle.bus_sound.proofs.Orders.{IsOrder, foremost-is, foremost-among, foremost-unbeaten}
+use Rattle.bus_sound.proofs.Among.{Among, among-Contains}
+use Rattle.bus_sound.proofs.Lists.{All-each, each-All}
+use Rattle.bus_sound.proofs.Orders.{IsOrder, foremost-is, foremost-some, foremost-among, foremost-unbeaten}
 use Rattle.world_specs.specs.World.{World}
-use Rattle.world_specs.specs.Next.{Event, rank, comes_before, precedes, enabled, up_to, next_event}
+use Rattle.world_specs.specs.Next.{What, Finish, Return, Sessions, Start, Event, at, rank, comes_before, precedes, enabled, up_to, next_event}
 
 abbrev pub key : Event → List ℕ
 key e = e.moment ∷ rank e.what
@@ -93,6 +94,10 @@ total (x ∷ xs) (y ∷ ys) h k = go (compared x y (comes_before xs ys)) (compar
     go (Same l e) (Higher m f) on = absurd (omega (arith, l, m))
     go (Same l e) (Same m f) on = let s = on (sym e ∙ h) (sym f ∙ k) in rw (l, s) refl
 
+front : List ℕ → ℕ
+front [] = 0
+front (x ∷ xs) = x
+
 rest : List ℕ → List ℕ
 rest [] = []
 rest (x ∷ xs) = xs
@@ -176,3 +181,59 @@ next-among stop w e h = foremost-among precedes (enabled w) e (below stop (forem
 pub next-unbeaten : {S : Type 0} (stop : ℕ) (w : World S) (e f : Event) → next_event stop w ≡ Some e → Among (enabled w) f → precedes f e ≡ false
 unfolding next_event
 next-unbeaten stop w e f h a = foremost-unbeaten precedes precedes-order (enabled w) e f (below stop (foremost precedes (enabled w)) e h).0 a
+
+-- ---- the only one
+
+rank-same : (k l : What) → rank k ≡ rank l → k ≡ l
+unfolding rest front
+rank-same (Finish b) (Finish c) e = ap Finish (ap (λ ns. front (rest ns)) e)
+rank-same (Return b m) (Return c n) e = rw (ap (λ ns. front (rest ns)) e, ap (λ ns. front (rest (rest ns))) e) refl
+rank-same Sessions Sessions e = refl
+rank-same (Start b) (Start c) e = ap Start (ap (λ ns. front (rest ns)) e)
+rank-same (Finish b) (Return c n) e = absurd (let k : 0 ≡ 1 = ap front e in omega (arith, k))
+rank-same (Finish b) Sessions e = absurd (let k : 0 ≡ 2 = ap front e in omega (arith, k))
+rank-same (Finish b) (Start c) e = absurd (let k : 0 ≡ 3 = ap front e in omega (arith, k))
+rank-same (Return b m) (Finish c) e = absurd (let k : 1 ≡ 0 = ap front e in omega (arith, k))
+rank-same (Return b m) Sessions e = absurd (let k : 1 ≡ 2 = ap front e in omega (arith, k))
+rank-same (Return b m) (Start c) e = absurd (let k : 1 ≡ 3 = ap front e in omega (arith, k))
+rank-same Sessions (Finish c) e = absurd (let k : 2 ≡ 0 = ap front e in omega (arith, k))
+rank-same Sessions (Return c n) e = absurd (let k : 2 ≡ 1 = ap front e in omega (arith, k))
+rank-same Sessions (Start c) e = absurd (let k : 2 ≡ 3 = ap front e in omega (arith, k))
+rank-same (Start b) (Finish c) e = absurd (let k : 3 ≡ 0 = ap front e in omega (arith, k))
+rank-same (Start b) (Return c n) e = absurd (let k : 3 ≡ 1 = ap front e in omega (arith, k))
+rank-same (Start b) Sessions e = absurd (let k : 3 ≡ 2 = ap front e in omega (arith, k))
+
+-- two events of which neither comes before the other are one
+pub one-event : (e f : Event) → precedes e f ≡ false → precedes f e ≡ false → e ≡ f
+unfolding rest front
+one-event e f h k =
+    let s = total (key e) (key f) h k in
+    let m : e.moment ≡ f.moment = ap front s in
+    let w : e.what ≡ f.what = rank-same e.what f.what (ap rest s) in
+    ap (λ t. at e.what t) m ∙ ap (λ v. at v f.moment) w
+
+pub next-only : {S : Type 0} (stop : ℕ) (w : World S) (e : Event) → Contains (enabled w) e → All (λ f. precedes f e ≡ false) (enabled w) → e.moment ≤ stop → next_event stop w ≡ Some e
+unfolding next_event
+next-only stop w e c h l = go (foremost precedes (enabled w)) refl
+  where
+    a : Among (enabled w) e
+    a = among-Contains (enabled w) e c
+
+    go : (o : Option Event) → foremost precedes (enabled w) ≡ o → up_to stop o ≡ Some e
+    go None q = absurd (both_ways false refl (sym (ap is_some q) ∙ foremost-some precedes (enabled w) e a))
+    go (Some f) q =
+        let same : f ≡ e = one-event f e (each-All (λ f. precedes f e ≡ false) (enabled w) f h (foremost-among precedes (enabled w) f q)) (foremost-unbeaten precedes precedes-order (enabled w) f e q a) in
+        subst (λ x. (if nat_le x.moment stop then Some x else None) ≡ Some e) (sym same) (rw (le-leb e.moment stop l) refl)
+
+pub next-none : {S : Type 0} (stop : ℕ) (w : World S) → next_event stop w ≡ None → All (λ e. stop < e.moment) (enabled w)
+unfolding next_event
+next-none stop w h = All-each (λ e. stop < e.moment) (enabled w) (λ e a. go (foremost precedes (enabled w)) refl h e a)
+  where
+    go : (o : Option Event) → foremost precedes (enabled w) ≡ o → up_to stop o ≡ None → (e : Event) → Among (enabled w) e → stop < e.moment
+    go None q k e a = absurd (both_ways false refl (sym (ap is_some q) ∙ foremost-some precedes (enabled w) e a))
+    go (Some f) q k e a = by (nat_le f.moment stop) refl k
+      where
+        by : (b : Bool) → nat_le f.moment stop ≡ b → (if b then Some f else None) ≡ None → stop < e.moment
+        by true t k = absurd (both_ways false refl (sym (ap is_some k)))
+        by false t k = let l = leb-false f.moment stop t in
+            let m = no-earlier f e (foremost-unbeaten precedes precedes-order (enabled w) f e q a) in omega (arith, l, m)

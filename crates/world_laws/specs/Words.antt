@@ -1,5 +1,6 @@
 -- The words of the laws of networks.
-use Rattle.std.specs.Prelude.{◌≡◌, ◌≤◌, ℕ, ◌==◌, true, false, All, List, [], ◌++◌, filter, fold, map, if◌then◌else◌, ⊤}
+use Rattle.std.specs.Prelude.{◌≡◌, ◌≤◌, ℕ, ◌==◌, true, false, All, List, [], ◌∷◌, ◌++◌, filter, fold, map, if◌then◌else◌, ⊤}
+use Rattle.log_specs.specs.Line.{Line, On, Down, Over, End}
 use Rattle.bus_specs.specs.Bus.{Bus, among, has_request}
 use Rattle.bus_specs.specs.Sound.{HasNothing}
 use Rattle.bus_specs.specs.Inbox.{has_inbox}
@@ -81,3 +82,24 @@ progress_in_order u buses t nodes order = fold (one_more u buses t) (record { no
 pub record IsLeft (node : ℕ) (b : Bus) : Type 0 where
   pub requests : has_request b.requests node ≡ false
   pub members : All (λ m. m.node ≡ node → HasNothing m) b.members
+
+-- ---- the lines of a log
+
+-- a line of this moment
+abbrev pub IsAt : ℕ → Line → Type 0
+IsAt t (On moment bus node told) = moment ≡ t
+IsAt t (Down moment node cause) = moment ≡ t
+IsAt t (Over moment node) = moment ≡ t
+IsAt t (End status events) = ⊥
+
+-- the moment behind a line; the end line has none of its own
+abbrev pub moment_after : ℕ → Line → ℕ
+moment_after last (On moment bus node told) = moment
+moment_after last (Down moment node cause) = moment
+moment_after last (Over moment node) = moment
+moment_after last (End status events) = last
+
+-- no line is earlier than the one before it, the first not before this moment
+abbrev pub LinesRise : ℕ → List Line → Type 0
+LinesRise last [] = ⊤
+LinesRise last (line ∷ lines) = (last ≤ moment_after last line) × LinesRise (moment_after last line) lines

@@ -1,21 +1,28 @@
 //! Which event comes next, and when.
 
-ghost use Rattle.std.specs.Prelude.{◌≡◌, ◌≤◌, ℕ, List, Some};
+ghost use Rattle.std.specs.Prelude.{◌≡◌, ◌≤◌, ◌<◌, ℕ, false, All, List, Some, None, Contains};
 ghost use Rattle.bus_specs.specs.Bus.{Bus};
 ghost use Rattle.run_specs.specs.Order.{IsForemost};
 ghost use Rattle.run_specs.specs.Run.{behind};
 ghost use Rattle.world_specs.specs.Units.{Units};
 ghost use Rattle.world_specs.specs.World.{World, Node, opening};
 ghost use Rattle.world_specs.specs.Next.{Event, precedes, enabled, next_event};
-ghost use Rattle.world_specs.specs.Step.{world_behind};
-ghost use Rattle.world_specs.specs.Network.{network};
+ghost use Rattle.world_specs.specs.Step.{world_behind, event_lines};
+ghost use Rattle.world_specs.specs.Network.{network, run_lines};
 ghost use Rattle.world_specs.specs.Fits.{UnitsFit};
-ghost use Rattle.world_laws.specs.Words.{NothingIsLate};
+ghost use Rattle.world_laws.specs.Words.{NothingIsLate, IsAt, LinesRise};
 
 /// Nothing that is enabled comes before the next event, which isn't after the stop.
 pub fn the_next_event_is_foremost<S>()
     ensures foremost { (stop : ℕ) (w : World S) (e : Event) → next_event stop w ≡ Some e → IsForemost precedes (enabled w) e }
     ensures within { (stop : ℕ) (w : World S) (e : Event) → next_event stop w ≡ Some e → e.moment ≤ stop }
+
+    // One that is enabled up to the stop, and that nothing enabled comes before, is the next.
+    ensures only { (stop : ℕ) (w : World S) (e : Event) → Contains (enabled w) e → All (λ f. precedes f e ≡ false) (enabled w)
+        → e.moment ≤ stop → next_event stop w ≡ Some e }
+
+    // There is none only where all that is enabled is after the stop.
+    ensures none { (stop : ℕ) (w : World S) → next_event stop w ≡ None → All (λ e. stop < e.moment) (enabled w) }
 {}
 
 /// No event is before the last one, and what is enabled behind an event isn't either.
@@ -30,4 +37,11 @@ pub fn nothing_is_ever_late<S>()
     ensures opening { (buses : List Bus) (nodes : List (Node S)) → NothingIsLate (opening buses nodes) }
     ensures along { (u : Units S) (stop events : ℕ) (w : World S) → UnitsFit u → NothingIsLate w
         → NothingIsLate (behind (network u stop) events w) }
+{}
+
+/// Each line of an event is of its moment, and so no line of a log is earlier than the one before it.
+pub fn no_line_is_earlier_than_the_one_before_it<S>()
+    ensures at { (u : Units S) (w : World S) (e : Event) → All (IsAt e.moment) (event_lines u w e) }
+    ensures rise { (u : Units S) (stop budget : ℕ) (w : World S) → UnitsFit u → NothingIsLate w
+        → LinesRise w.now (run_lines u stop budget w) }
 {}

@@ -6,7 +6,10 @@ mod fits;
 mod nodes;
 mod orders;
 
-pub use events::{moments_never_fall, nothing_is_ever_late, the_next_event_is_foremost};
+pub use events::{
+    moments_never_fall, no_line_is_earlier_than_the_one_before_it, nothing_is_ever_late,
+    the_next_event_is_foremost,
+};
 pub use fits::{
     a_moment_has_one_sessions, each_event_comes_behind_the_last, plans_open_networks_that_fit,
     sessions_leave_nothing_waiting, what_fits_goes_on_to_fit, who_is_not_live_holds_nothing,
