@@ -15,3 +15,4 @@ pub mod Follows
 pub mod Opens
 pub mod Left
 pub mod Lined
+pub mod Planned

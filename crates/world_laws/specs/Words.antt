@@ -1,6 +1,10 @@
 -- The words of the laws of networks.
 use Rattle.std.specs.Prelude.{◌≡◌, ◌≤◌, ℕ, ◌==◌, true, false, All, List, [], ◌∷◌, ◌++◌, filter, fold, map, if◌then◌else◌, ⊤}
 use Rattle.log_specs.specs.Line.{Line, On, Down, Over, End}
+use Rattle.fmi_states.specs.declared.call.Call.{Call}
+use Rattle.fmi_states.specs.declared.reply.Reply.{Reply}
+use Rattle.session_specs.specs.Replies.{bytes_in}
+use Rattle.world_specs.specs.Fits.{AreBytes}
 use Rattle.bus_specs.specs.Bus.{Bus, among, has_request}
 use Rattle.bus_specs.specs.Sound.{HasNothing}
 use Rattle.bus_specs.specs.Inbox.{has_inbox}
@@ -103,3 +107,9 @@ moment_after last (End status events) = last
 abbrev pub LinesRise : ℕ → List Line → Type 0
 LinesRise last [] = ⊤
 LinesRise last (line ∷ lines) = (last ≤ moment_after last line) × LinesRise (moment_after last line) lines
+
+-- ---- units
+
+-- a unit whose binary replies are bytes
+abbrev pub AnswersBytes : {S : Type 0} → (S → Call → Reply × S) → Type 0
+AnswersBytes {S} answer = (s : S) (c : Call) → AreBytes (bytes_in (answer s c).0)

@@ -2,16 +2,24 @@
 
 ghost use Rattle.std.specs.Prelude.{◌≡◌, ◌<◌, ℕ, List, All, Some, true, false};
 ghost use Rattle.run_specs.specs.Run.{behind};
-ghost use Rattle.bus_specs.specs.Bus.{Bus, Member, has_request};
-ghost use Rattle.bus_specs.specs.Sound.{HasNothing};
+ghost use Rattle.fmi_states.specs.declared.phase.Phase.{Phase};
+ghost use Rattle.fmi_states.specs.declared.call.Call.{Call};
+ghost use Rattle.fmi_states.specs.declared.reply.Reply.{Reply};
 ghost use Rattle.world_specs.specs.Units.{Units};
 ghost use Rattle.world_specs.specs.World.{World, Node};
 ghost use Rattle.world_specs.specs.Next.{Event, Sessions, at, precedes, next_event};
 ghost use Rattle.world_specs.specs.Step.{outcome_of, world_behind};
 ghost use Rattle.world_specs.specs.Network.{network};
-ghost use Rattle.world_specs.specs.Plan.{Plan, IsPlan, opening_of};
+ghost use Rattle.world_specs.specs.Plan.{Plan, IsPlan, opening_of, units_of};
 ghost use Rattle.world_specs.specs.Fits.{UnitsFit, is_live_node, Fits};
-ghost use Rattle.world_laws.specs.Words.{IsSessions, IsLeft, NothingWaits};
+ghost use Rattle.world_laws.specs.Words.{AnswersBytes, IsSessions, IsLeft, NothingWaits};
+
+/// The units of a plan set clocks behind the moment of their session and emit bytes, where each answers
+/// with bytes.
+pub fn units_of_a_plan_fit<S>()
+    ensures fit { (answer : S → Call → Reply × S) (phase_of : S → Phase) (p : Plan) → AnswersBytes answer
+        → UnitsFit (units_of answer phase_of p) }
+{}
 
 /// The network of a plan fits as it opens.
 pub fn plans_open_networks_that_fit<S>()

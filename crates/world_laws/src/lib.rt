@@ -12,7 +12,8 @@ pub use events::{
 };
 pub use fits::{
     a_moment_has_one_sessions, each_event_comes_behind_the_last, plans_open_networks_that_fit,
-    sessions_leave_nothing_waiting, what_fits_goes_on_to_fit, who_is_not_live_holds_nothing,
+    sessions_leave_nothing_waiting, units_of_a_plan_fit, what_fits_goes_on_to_fit,
+    who_is_not_live_holds_nothing,
 };
 pub use nodes::{
     only_who_takes_part_changes, others_have_no_session, sessions_join, who_is_out_stays_out,
