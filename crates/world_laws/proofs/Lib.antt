@@ -16,3 +16,4 @@ pub mod Opens
 pub mod Left
 pub mod Lined
 pub mod Planned
+pub mod Ended

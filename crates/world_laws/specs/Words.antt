@@ -1,5 +1,5 @@
 -- The words of the laws of networks.
-use Rattle.std.specs.Prelude.{◌≡◌, ◌≤◌, ℕ, ◌==◌, true, false, All, List, [], ◌∷◌, ◌++◌, filter, fold, map, if◌then◌else◌, ⊤}
+use Rattle.std.specs.Prelude.{◌≡◌, ◌≤◌, ℕ, ◌+◌, ◌==◌, true, false, All, List, [], ◌∷◌, ◌++◌, filter, fold, map, if◌then◌else◌, ⊤}
 use Rattle.log_specs.specs.Line.{Line, On, Down, Over, End}
 use Rattle.fmi_states.specs.declared.call.Call.{Call}
 use Rattle.fmi_states.specs.declared.reply.Reply.{Reply}
@@ -113,3 +113,12 @@ LinesRise last (line ∷ lines) = (last ≤ moment_after last line) × LinesRise
 -- a unit whose binary replies are bytes
 abbrev pub AnswersBytes : {S : Type 0} → (S → Call → Reply × S) → Type 0
 AnswersBytes {S} answer = (s : S) (c : Call) → AreBytes (bytes_in (answer s c).0)
+
+-- The last line tells the status, and so many events: with those that a run began with at most its budget more, and all of it where
+-- the status is 8.
+pub record EndsWith (status before budget : ℕ) (lines : List Line) : Type 0 where
+  pub body : List Line
+  pub events : ℕ
+  pub split : lines ≡ body ++ End status events ∷ []
+  pub within : events ≤ before + budget
+  pub spent : status ≡ 8 → events ≡ before + budget

@@ -8,9 +8,9 @@ ghost use Rattle.world_specs.specs.Units.{Units};
 ghost use Rattle.world_specs.specs.World.{World, Node, opening};
 ghost use Rattle.world_specs.specs.Next.{Event, precedes, enabled, next_event};
 ghost use Rattle.world_specs.specs.Step.{world_behind, event_lines};
-ghost use Rattle.world_specs.specs.Network.{network, run_lines};
+ghost use Rattle.world_specs.specs.Network.{network, run_lines, run_status};
 ghost use Rattle.world_specs.specs.Fits.{UnitsFit};
-ghost use Rattle.world_laws.specs.Words.{NothingIsLate, IsAt, LinesRise};
+ghost use Rattle.world_laws.specs.Words.{EndsWith, NothingIsLate, IsAt, LinesRise};
 
 /// Nothing that is enabled comes before the next event, which isn't after the stop.
 pub fn the_next_event_is_foremost<S>()
@@ -44,4 +44,11 @@ pub fn no_line_is_earlier_than_the_one_before_it<S>()
     ensures at { (u : Units S) (w : World S) (e : Event) → All (IsAt e.moment) (event_lines u w e) }
     ensures rise { (u : Units S) (stop budget : ℕ) (w : World S) → UnitsFit u → NothingIsLate w
         → LinesRise w.now (run_lines u stop budget w) }
+{}
+
+/// A log ends with its status and the number of events. Its budget is spent where the status is 8, and an
+/// event is left then up to the stop.
+pub fn each_log_ends_with_its_status<S>()
+    ensures ends { (u : Units S) (stop budget : ℕ) (w : World S)
+        → EndsWith (run_status u stop budget w) w.events budget (run_lines u stop budget w) }
 {}

@@ -7,7 +7,7 @@ mod nodes;
 mod orders;
 
 pub use events::{
-    moments_never_fall, no_line_is_earlier_than_the_one_before_it, nothing_is_ever_late,
+    each_log_ends_with_its_status, moments_never_fall, no_line_is_earlier_than_the_one_before_it, nothing_is_ever_late,
     the_next_event_is_foremost,
 };
 pub use fits::{
@@ -22,3 +22,6 @@ pub use orders::{
     any_order_gives_the_same_nodes, each_session_is_from_the_state_before,
     two_orders_give_the_same_nodes,
 };
+
+#[cfg(test)]
+mod tests;
