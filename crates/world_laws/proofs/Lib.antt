@@ -17,3 +17,4 @@ pub mod Left
 pub mod Lined
 pub mod Planned
 pub mod Ended
+pub mod Counted

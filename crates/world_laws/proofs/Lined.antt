@@ -1,9 +1,8 @@
 -- Each line of an event is of its moment, so the moments of a log never fall.
-use Rattle.std.proofs.Common.{◌≡◌, ◌≤◌, ◌⊎◌, ℕ, zero, suc, ◌==◌, Bool, true, false, if◌then◌else◌, List, [], ◌∷◌, ◌++◌, map, fold, Option, Some, None, All, arith, sym, refl, ap, ◌∙◌, subst, inl, inr, append_assoc}
+use Rattle.std.proofs.Common.{◌≡◌, ◌≤◌, ◌⊎◌, ℕ, zero, suc, ◌==◌, Bool, true, false, if◌then◌else◌, List, [], ◌∷◌, ◌++◌, map, fold, Option, Some, None, All, arith, sym, refl, subst, inl, inr, append_assoc}
 use Rattle.std.specs.Prelude.{flat_map, option_map}
 use Rattle.log_specs.specs.Line.{Line, On, Down, Over, End}
 use Rattle.log_specs.specs.Line as log
-use Rattle.operation_specs.specs.Operation.{Declared}
 use Rattle.operation_specs.specs.Reading.{Item}
 use Rattle.run_specs.specs.Run.{Machine, behind, head, then_from}
 use Rattle.run_specs.specs.Run as run
@@ -14,7 +13,7 @@ use Rattle.bus_specs.specs.Start.{start, start_with, losers, loser_told}
 use Rattle.bus_specs.specs.Finish.{finish, finish_with, outcome_line, hurt_lines, state_lines, same_level, counters_after, recover}
 use Rattle.bus_specs.specs.Submit.{submission_of, submit}
 use Rattle.bus_specs.specs.Inbox.{take_inbox, members_at, told_notices}
-use Rattle.bus_sound.proofs.Among.{Among, among-push_cases}
+use Rattle.bus_sound.proofs.Among.{Among}
 use Rattle.bus_sound.proofs.Lists.{All-each, map-among, append-among, flat_map-among}
 use Rattle.world_specs.specs.Units.{Units}
 use Rattle.world_specs.specs.World.{World, Node}
@@ -24,7 +23,6 @@ use Rattle.world_specs.specs.Step.{outcome_of, world_behind, event_lines}
 use Rattle.world_specs.specs.Network.{step, close_of, failure_lines, lines_of_close, close_lines, closing, network, run_lines}
 use Rattle.world_specs.specs.Fits.{UnitsFit}
 use Rattle.world_laws.specs.Words.{IsAt, moment_after, LinesRise, NothingIsLate}
-use Rattle.world_laws.proofs.Order.{next-within}
 use Rattle.world_laws.proofs.Timed.{forward, none-late}
 
 module _ (t : ℕ) where

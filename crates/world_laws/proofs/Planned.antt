@@ -1,6 +1,6 @@
 -- The units of a plan set clocks behind the moment of their session, and emit what they answer.
-use Rattle.std.proofs.Common.{◌≡◌, ◌<◌, ◌⊎◌, ℕ, zero, suc, ◌+◌, Bool, true, false, if◌then◌else◌, List, [], ◌∷◌, ◌++◌, length, replicate, Option, Some, None, All, Result, Ok, Err, IfOk, arith, sym, refl, ap, ◌∙◌, subst, inl, inr}
-use Rattle.std.specs.Prelude.{option_map, nat_lt, nat_le, ◌&&◌, ◌*◌, ◌/◌, ◌%◌, ◌==◌, ◌^◌, ⊤}
+use Rattle.std.proofs.Common.{◌≡◌, ◌<◌, ◌⊎◌, ℕ, zero, suc, ◌+◌, Bool, true, false, if◌then◌else◌, List, [], ◌∷◌, ◌++◌, length, replicate, Option, Some, None, Result, Ok, Err, IfOk, arith, refl, subst, inl, inr}
+use Rattle.std.specs.Prelude.{option_map, nat_lt, nat_le, ◌*◌, ◌/◌, ◌%◌, ◌==◌, ◌^◌, ⊤}
 use Rattle.std.proofs.lemmas.Bool.{and_parts, ltb-true}
 use Rattle.fmi_states.specs.declared.phase.Phase.{Phase}
 use Rattle.fmi_states.specs.declared.call.Call.{Call}
@@ -11,13 +11,12 @@ use Rattle.fmi_states.specs.declared.reply.Qualifier.{Qualifier}
 use Rattle.fmi_states.specs.declared.reply.Qualifier.TheVariants as qualifier
 use Rattle.unit_specs.specs.Description.{Description, Terminal}
 use Rattle.log_specs.specs.Line.{Cause}
-use Rattle.session_specs.specs.Outcome.{SessionIn, SessionOut, Emission, DueChange, Keep, Clear, At}
+use Rattle.session_specs.specs.Outcome.{SessionIn, SessionOut, Emission, DueChange, Keep, At}
 use Rattle.session_specs.specs.Sequence.{continue_with, in_order}
-use Rattle.session_specs.specs.Replies.{fault_of, is_freed_behind, ticks_by, bytes_in, Wish, AnotherUpdate, NoUpdate, TheEnd, wish_of, is_interval, interval_from, scaled_interval, change_by, change_of}
-use Rattle.session_specs.specs.Session.{all_kept, with_change, Transmitted, Iteration, effect_by_fault, effect_of, entry_calls, input_calls, emission_of, iteration_of, next_iteration, iterations, interval_call, termination_calls, exit_calls, all_calls, outcome_of, is_fresh, session_of}
+use Rattle.session_specs.specs.Replies.{fault_of, ticks_by, bytes_in, Wish, AnotherUpdate, NoUpdate, TheEnd, is_interval, interval_from, scaled_interval, change_by, change_of}
+use Rattle.session_specs.specs.Session.{with_change, Iteration, effect_by_fault, effect_of, entry_calls, input_calls, emission_of, iteration_of, next_iteration, iterations, interval_call, termination_calls, exit_calls, all_calls, outcome_of, is_fresh, session_of}
 use Rattle.bus_sound.proofs.Among.{Among, among-push_cases}
-use Rattle.bus_sound.proofs.Lists.{All-each, each-All}
-use Rattle.world_specs.specs.Units.{Given, Units}
+use Rattle.bus_sound.proofs.Lists.{All-each}
 use Rattle.world_specs.specs.Plan.{Plan, description_of, session_in, units_of}
 use Rattle.world_specs.specs.Fits.{IsSetBehind, AreBytes, UnitsFit}
 use Rattle.world_laws.specs.Words.{AnswersBytes}

@@ -1,5 +1,5 @@
 -- The words of the laws of networks.
-use Rattle.std.specs.Prelude.{◌≡◌, ◌≤◌, ℕ, ◌+◌, ◌==◌, true, false, All, List, [], ◌∷◌, ◌++◌, filter, fold, map, if◌then◌else◌, ⊤}
+use Rattle.std.specs.Prelude.{◌≡◌, ◌≤◌, ℕ, ◌+◌, ◌*◌, ◌==◌, true, false, All, List, [], ◌∷◌, ◌++◌, filter, fold, length, map, if◌then◌else◌, ⊤}
 use Rattle.log_specs.specs.Line.{Line, On, Down, Over, End}
 use Rattle.fmi_states.specs.declared.call.Call.{Call}
 use Rattle.fmi_states.specs.declared.reply.Reply.{Reply}
@@ -122,3 +122,13 @@ pub record EndsWith (status before budget : ℕ) (lines : List Line) : Type 0 wh
   pub split : lines ≡ body ++ End status events ∷ []
   pub within : events ≤ before + budget
   pub spent : status ≡ 8 → events ≡ before + budget
+
+-- ---- numbers
+
+-- Each attempt took an event, and each event gave out 256 request numbers a node at most.
+pub record IsCounted (nodes events : ℕ) (b : Bus) : Type 0 where
+  pub attempts : b.attempts ≤ events
+  pub numbers : b.next ≤ events * (256 * nodes)
+
+abbrev pub AllCounted : {S : Type 0} → World S → Type 0
+AllCounted w = All (IsCounted (length w.nodes) w.events) w.buses

@@ -12,7 +12,7 @@ ghost use Rattle.world_specs.specs.Step.{outcome_of, world_behind};
 ghost use Rattle.world_specs.specs.Network.{network};
 ghost use Rattle.world_specs.specs.Plan.{Plan, IsPlan, opening_of, units_of};
 ghost use Rattle.world_specs.specs.Fits.{UnitsFit, is_live_node, Fits};
-ghost use Rattle.world_laws.specs.Words.{AnswersBytes, IsSessions, IsLeft, NothingWaits};
+ghost use Rattle.world_laws.specs.Words.{AllCounted, AnswersBytes, IsSessions, IsLeft, NothingWaits};
 
 /// The units of a plan set clocks behind the moment of their session and emit bytes, where each answers
 /// with bytes.
@@ -53,4 +53,13 @@ pub fn sessions_leave_nothing_waiting<S>()
 /// A node that isn't live has no request, notice or mail on any bus.
 pub fn who_is_not_live_holds_nothing<S>()
     ensures nothing { (w : World S) (node : ℕ) → Fits w → is_live_node w.nodes node ≡ false → All (IsLeft node) w.buses }
+{}
+
+/// A bus has had no more attempts than there were events, and has given out no more than 256 request numbers
+/// an event and a node.
+pub fn numbers_stay_small<S>()
+    ensures opens { (p : Plan) (states : List S) → AllCounted (opening_of p states) }
+    ensures step { (u : Units S) (w : World S) (e : Event) → Fits w → AllCounted w → AllCounted (world_behind u w e) }
+    ensures along { (u : Units S) (stop events : ℕ) (w : World S) → UnitsFit u → Fits w → AllCounted w
+        → AllCounted (behind (network u stop) events w) }
 {}

@@ -7,13 +7,13 @@ mod nodes;
 mod orders;
 
 pub use events::{
-    each_log_ends_with_its_status, moments_never_fall, no_line_is_earlier_than_the_one_before_it, nothing_is_ever_late,
-    the_next_event_is_foremost,
+    each_log_ends_with_its_status, moments_never_fall, no_line_is_earlier_than_the_one_before_it,
+    nothing_is_ever_late, the_next_event_is_foremost,
 };
 pub use fits::{
-    a_moment_has_one_sessions, each_event_comes_behind_the_last, plans_open_networks_that_fit,
-    sessions_leave_nothing_waiting, units_of_a_plan_fit, what_fits_goes_on_to_fit,
-    who_is_not_live_holds_nothing,
+    a_moment_has_one_sessions, each_event_comes_behind_the_last, numbers_stay_small,
+    plans_open_networks_that_fit, sessions_leave_nothing_waiting, units_of_a_plan_fit,
+    what_fits_goes_on_to_fit, who_is_not_live_holds_nothing,
 };
 pub use nodes::{
     only_who_takes_part_changes, others_have_no_session, sessions_join, who_is_out_stays_out,
