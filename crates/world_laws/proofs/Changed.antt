@@ -1,5 +1,5 @@
 -- What an event does to the nodes.
-use Rattle.std.proofs.Common.{◌≡◌, ℕ, zero, suc, Bool, true, false, List, [], ◌∷◌, All, slice_get, option_map, Option, Some, None, refl, ap, sym, subst, inl, inr}
+use Rattle.std.proofs.Common.{◌≡◌, ℕ, zero, suc, Bool, true, false, List, [], ◌∷◌, All, slice_get, option_map, Option, Some, None, refl, ap, sym, ◌∙◌, subst, inl, inr}
 use Rattle.std.specs.List.{cons_option}
 use Rattle.run_specs.specs.Run.{then_from, behind}
 use Rattle.session_specs.specs.Outcome.{SessionOut, End}
@@ -12,7 +12,8 @@ use Rattle.world_specs.specs.World.{World, Node, Standing, New, Live, Down, Over
 use Rattle.world_specs.specs.Next.{What, Finish, Return, Sessions, Start, Event, at, next_event}
 use Rattle.world_specs.specs.Sessions.{is_called, takes_part, session_from, session_of, Turn, turn_of, turns, node_behind, node_after, standing_after, given_to}
 use Rattle.world_specs.specs.Step.{world_behind, event_lines}
-use Rattle.world_specs.specs.Network.{step, network}
+use Rattle.world_specs.specs.Network.{step, network, close_from, standing_by, standing_closed, node_closed}
+use Rattle.world_specs.specs.Fits.{is_live}
 use Rattle.world_laws.specs.Words.{IsNewOrLive, IsDownOrOver, IsSessions, LastAt}
 use Rattle.world_laws.proofs.Lists.{get-map}
 
@@ -118,6 +119,32 @@ module _ {S : Type 0} (u : Units S) where
       go (Return b m) out = h
       go (Start b) out = h
       go Sessions out = rw (get-map (node_after u w.buses e.moment) w.nodes i, h) (ap Some (not-called-stays u w.buses e.moment n (out tt)))
+
+  pub own-session : (w : World S) (t i : ℕ) (n : Node S) → slice_get w.nodes i ≡ Some n → slice_get (world_behind u w (at Sessions t)).nodes i ≡ Some (node_after u w.buses t n)
+  own-session w t i n h = get-map (node_after u w.buses t) w.nodes i ∙ ap (option_map (node_after u w.buses t)) h
+
+  pub not-closed : (n : Node S) → is_live n.standing ≡ false → node_closed u n ≡ n
+  not-closed n h = go n.standing refl h
+    where
+      go : (s : Standing S) → n.standing ≡ s → is_live s ≡ false → node_closed u n ≡ n
+      go (New s) e i = rw e refl
+      go (Live s last clocks) e i = absurd cc
+      go Down e i = rw e refl
+      go Over e i = rw e refl
+
+  pub closed-out : (n : Node S) → is_live n.standing ≡ true → IsDownOrOver (node_closed u n).standing
+  closed-out n h = go n.standing refl h
+    where
+      by : (e : End) → IsDownOrOver {S = S} (standing_by e)
+      by session.Live = tt
+      by session.Over = tt
+      by (session.Down cause) = tt
+
+      go : (s : Standing S) → n.standing ≡ s → is_live s ≡ true → IsDownOrOver (standing_closed n.standing (close_from u n.number s))
+      go (New s) e i = absurd cc
+      go (Live s last clocks) e i = by (u.close n.number s).0
+      go Down e i = absurd cc
+      go Over e i = absurd cc
 
   -- what each step keeps holds along a run
   pub along : (stop : ℕ) (P : World S → Type 0) → ((w : World S) (e : Event) → next_event stop w ≡ Some e → P w → P (world_behind u w e))

@@ -16,7 +16,8 @@ pub use fits::{
     what_fits_goes_on_to_fit, who_is_not_live_holds_nothing,
 };
 pub use nodes::{
-    only_who_takes_part_changes, others_have_no_session, sessions_join, who_is_out_stays_out,
+    only_live_nodes_are_closed, only_who_takes_part_changes, others_have_no_session, sessions_join,
+    who_is_out_stays_out,
 };
 pub use orders::{
     any_order_gives_the_same_nodes, each_session_is_from_the_state_before,

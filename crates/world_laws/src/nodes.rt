@@ -5,10 +5,11 @@ ghost use Rattle.bus_specs.specs.Bus.{Bus};
 ghost use Rattle.run_specs.specs.Run.{behind};
 ghost use Rattle.world_specs.specs.Units.{Units};
 ghost use Rattle.world_specs.specs.World.{World, Node};
-ghost use Rattle.world_specs.specs.Next.{Event};
+ghost use Rattle.world_specs.specs.Next.{Event, Sessions, at};
 ghost use Rattle.world_specs.specs.Sessions.{node_after, turns, takes_part};
 ghost use Rattle.world_specs.specs.Step.{world_behind};
-ghost use Rattle.world_specs.specs.Network.{network};
+ghost use Rattle.world_specs.specs.Network.{network, node_closed};
+ghost use Rattle.world_specs.specs.Fits.{is_live};
 ghost use Rattle.world_laws.specs.Words.{LastAt, IsDownOrOver, IsNewOrLive, IsSessions};
 
 /// The sessions of a moment are of nodes that are new or live.
@@ -22,6 +23,16 @@ pub fn only_who_takes_part_changes<S>()
     ensures same { (u : Units S) (w : World S) (e : Event) (place : ℕ) (n : Node S)
         → (IsSessions e.what → takes_part w.buses e.moment n ≡ false) → slice_get w.nodes place ≡ Some n
         → slice_get (world_behind u w e).nodes place ≡ Some n }
+
+    // Then it is what its own session makes of it.
+    ensures own { (u : Units S) (w : World S) (t place : ℕ) (n : Node S) → slice_get w.nodes place ≡ Some n
+        → slice_get (world_behind u w (at Sessions t)).nodes place ≡ Some (node_after u w.buses t n) }
+{}
+
+/// A close is of the live nodes alone, and behind it each of them is down or over.
+pub fn only_live_nodes_are_closed<S>()
+    ensures same { (u : Units S) (n : Node S) → is_live n.standing ≡ false → node_closed u n ≡ n }
+    ensures out { (u : Units S) (n : Node S) → is_live n.standing ≡ true → IsDownOrOver (node_closed u n).standing }
 {}
 
 /// A node that is down or over stays so along every run.

@@ -20,6 +20,7 @@ fn the_laws_stand_at_numbers(_rt: HostRuntime) -> Result<(), Fail> {
     others_have_no_session::<u32>();
     only_who_takes_part_changes::<u32>();
     who_is_out_stays_out::<u32>();
+    only_live_nodes_are_closed::<u32>();
     sessions_join::<u32>();
     any_order_gives_the_same_nodes::<u32>();
     two_orders_give_the_same_nodes::<u32>();
