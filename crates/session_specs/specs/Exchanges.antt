@@ -13,30 +13,32 @@ pub record Exchange : Type 0 where
   pub call : Call
   pub reply : Reply
 
+abbrev pub exchange : Call → Reply → Exchange
+exchange c r = record { call = c; reply = r }
+
 -- a state of a unit, and the calls so far
 pub record Noted (S : Type 0) : Type 0 where
   pub state : S
   pub exchanges : List Exchange
 
--- no calls so far
-abbrev pub unnoted : {S : Type 0} → S → Noted S
-unnoted s = record { state = s; exchanges = [] }
+abbrev pub noted_at : {S : Type 0} → S → List Exchange → Noted S
+noted_at s exchanges = record { state = s; exchanges = exchanges }
 
 module _ {S : Type 0} (answer : S → Call → Reply × S) where
   -- the same answers, each noted
   abbrev pub noting : Noted S → Call → Reply × Noted S
-  noting s c = ((answer s.state c).0, record {
-    state = (answer s.state c).1;
-    exchanges = s.exchanges ++ record { call = c; reply = (answer s.state c).0 } ∷ [];
-  })
+  noting s c = (
+    (answer s.state c).0,
+    noted_at (answer s.state c).1 (s.exchanges ++ exchange c (answer s.state c).0 ∷ []),
+  )
 
   -- the calls of a session
   abbrev pub session_calls : (S → Phase) → Description → SessionIn → S → List Exchange
-  session_calls phase_of d input s = ((session_of noting (λ n. phase_of n.state) d input (unnoted s)).1).exchanges
+  session_calls phase_of d input s = ((session_of noting (λ n. phase_of n.state) d input (noted_at s [])).1).exchanges
 
   -- the calls of a close
   abbrev pub close_calls : S → List Exchange
-  close_calls s = ((close_of noting (unnoted s)).1).exchanges
+  close_calls s = ((close_of noting (noted_at s [])).1).exchanges
 
   -- These calls lead from s to t: each is permitted in the phase that it finds, and answered as the unit answers.
   abbrev pub IsRun : (S → Phase) → S → List Exchange → S → Type 0

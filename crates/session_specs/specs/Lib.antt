@@ -5,3 +5,5 @@ pub mod Replies
 pub mod Session
 pub mod Exchanges
 pub mod Worked
+pub mod WorkedIntervals
+pub mod WrittenOut

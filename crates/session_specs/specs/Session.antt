@@ -10,7 +10,7 @@
 --                 |                               |
 --     the unit asks for the end            no further update
 --     Terminate, Free (Gone)               GetInterval of each countdown clock, EnterStep (Step Mode)
-use Rattle.std.specs.Prelude.{ℕ, suc, zero, ◌+◌, ◌-◌, ◌==◌, Bool, true, false, List, [], ◌∷◌, ◌++◌, length, get_or, replicate, Result, Ok, Err, Option, None, Some, if◌then◌else◌}
+use Rattle.std.specs.Prelude.{ℕ, suc, zero, ◌-◌, ◌==◌, Bool, true, false, List, [], ◌∷◌, ◌++◌, length, get_or, replicate, Result, Ok, Err, Option, None, Some, if◌then◌else◌}
 use Rattle.fmi_states.specs.declared.phase.Phase.{Phase}
 use Rattle.fmi_states.specs.declared.phase.Phase.TheVariants.{Fresh, Event, Step, Gone}
 use Rattle.fmi_states.specs.declared.call.Call.{Call}
@@ -31,15 +31,36 @@ abbrev pub with_change : Option DueChange → List DueChange → Result (List Du
 with_change (Some change) dues = Ok (dues ++ change ∷ [])
 with_change None dues = Err BadInterval
 
--- what was transmitted, and whether the unit asked for the end
+-- what was emitted, and whether the unit asked for the end
 pub record Transmitted : Type 0 where
   pub emitted : List Emission
   pub ends : Bool
 
--- one iteration: what was transmitted so far, and what its update asks for
+abbrev pub transmitted : List Emission → (ends : Bool) → Transmitted
+transmitted emitted ends = record { emitted = emitted; ends = ends }
+
+-- an iteration: what was emitted so far, and what its update asks for
 pub record Iteration : Type 0 where
   pub emitted : List Emission
   pub wish : Wish
+
+abbrev pub iteration : List Emission → Wish → Iteration
+iteration emitted wish = record { emitted = emitted; wish = wish }
+
+-- the bytes in a reply, of the terminal in place n
+abbrev pub emission : ℕ → Reply → Emission
+emission n r = record { terminal = n; bytes = bytes_in r }
+
+-- A unit that goes on, and one that ended by its own wish, emitted this.
+abbrev pub outcome_live : List Emission → List DueChange → SessionOut
+outcome_live emitted dues = record { emitted = emitted; dues = dues; end = Live }
+
+abbrev pub outcome_over : List ℕ → List Emission → SessionOut
+outcome_over clocks emitted = record { emitted = emitted; dues = all_kept clocks; end = Over }
+
+-- A unit that is down emitted nothing and changed no clock.
+abbrev pub outcome_down : List ℕ → Cause → SessionOut
+outcome_down clocks why = record { emitted = []; dues = all_kept clocks; end = Down why }
 
 module _ {S : Type 0} (answer : S → Call → Reply × S) where
   abbrev pub effect_by_fault : Call → Option Cause → Reply → S → Result Reply Cause × S
@@ -90,20 +111,19 @@ module _ {S : Type 0} (answer : S → Call → Reply × S) where
   -- what was emitted, with what the terminal in place n emits behind it
   abbrev pub emission_of : ℕ → Terminal → List Emission → S → Result (List Emission) Cause × S
   emission_of n terminal emitted s = effect_of (call.GetClock terminal.tx_clock) s >>= λ clock s. if ticks_by clock
-      then (effect_of (call.GetBinary terminal.tx_data) s >>= λ r s.
-      (Ok (emitted ++ record { terminal = n; bytes = bytes_in r } ∷ []), s))
+      then (effect_of (call.GetBinary terminal.tx_data) s >>= λ r s. (Ok (emitted ++ emission n r ∷ []), s))
       else (Ok emitted, s)
 
   -- one iteration
   abbrev pub iteration_of : List Terminal → List Emission → S → Result Iteration Cause × S
   iteration_of terminals emitted s = in_order emission_of 0 terminals emitted s >>= λ emitted s.
-      effect_of call.Update s >>= λ r s. (Ok (record { emitted = emitted; wish = wish_of r }), s)
+      effect_of call.Update s >>= λ r s. (Ok (iteration emitted (wish_of r)), s)
 
   -- another iteration where the unit asks for one, else the end of the iterations
   abbrev pub next_iteration : Wish → List Emission → S → Result Transmitted Cause × S → Result Transmitted Cause × S
   next_iteration AnotherUpdate emitted s another = another
-  next_iteration NoUpdate emitted s another = (Ok (record { emitted = emitted; ends = false }), s)
-  next_iteration TheEnd emitted s another = (Ok (record { emitted = emitted; ends = true }), s)
+  next_iteration NoUpdate emitted s another = (Ok (transmitted emitted false), s)
+  next_iteration TheEnd emitted s another = (Ok (transmitted emitted true), s)
 
   -- the iterations, of which so many are left
   unfoldable pub iterations : List Terminal → (left : ℕ) → List Emission → S → Result Transmitted Cause × S
@@ -123,10 +143,9 @@ module _ {S : Type 0} (answer : S → Call → Reply × S) where
   termination_calls s = effect_of call.Terminate s >>= λ r s. (Ok tt, (answer s call.Free).1)
 
   abbrev pub exit_calls : Description → SessionIn → List Emission → (ends : Bool) → S → Result SessionOut Cause × S
-  exit_calls d input emitted true s = termination_calls s >>= λ x s.
-      (Ok (record { emitted = emitted; dues = all_kept d.countdown; end = Over }), s)
+  exit_calls d input emitted true s = termination_calls s >>= λ x s. (Ok (outcome_over d.countdown emitted), s)
   exit_calls d input emitted false s = in_order (interval_call input) 0 d.countdown [] s >>= λ dues s.
-      effect_of call.EnterStep s >>= λ r s. (Ok (record { emitted = emitted; dues = dues; end = Live }), s)
+      effect_of call.EnterStep s >>= λ r s. (Ok (outcome_live emitted dues), s)
 
   -- ---- the whole
 
@@ -135,14 +154,13 @@ module _ {S : Type 0} (answer : S → Call → Reply × S) where
   all_calls d input is_new s = entry_calls is_new input s >>= λ r s. input_calls d input s >>= λ x s.
       iterations d.terminals 16 [] s >>= λ t s. exit_calls d input t.emitted t.ends s
 
--- A unit that is down emitted nothing and changed no clock.
 abbrev pub outcome_of : List ℕ → Result SessionOut Cause → SessionOut
 outcome_of clocks (Ok out) = out
-outcome_of clocks (Err why) = record { emitted = []; dues = all_kept clocks; end = Down why }
+outcome_of clocks (Err why) = outcome_down clocks why
 
-abbrev pub end_of : Result (Unit {0}) Cause → End
-end_of (Ok x) = Over
-end_of (Err why) = Down why
+abbrev pub end_of_close : Result (Unit {0}) Cause → End
+end_of_close (Ok x) = Over
+end_of_close (Err why) = Down why
 
 abbrev pub is_fresh : Phase → Bool
 is_fresh Fresh = true
@@ -151,12 +169,14 @@ is_fresh other = false
 module _ {S : Type 0} (answer : S → Call → Reply × S) (phase_of : S → Phase) where
   -- A session: what comes of it, and the state behind it. It opens the unit exactly where that is Fresh.
   abbrev pub session_of : Description → SessionIn → S → SessionOut × S
-  session_of d input s = (outcome_of d.countdown (all_calls answer d input (is_fresh (phase_of s)) s).0,
-      (all_calls answer d input (is_fresh (phase_of s)) s).1)
+  session_of d input s = (
+    outcome_of d.countdown (all_calls answer d input (is_fresh (phase_of s)) s).0,
+    (all_calls answer d input (is_fresh (phase_of s)) s).1,
+  )
 
 -- The close of a unit that is live when the simulation ends: its end, and the state behind it.
 abbrev pub close_of : {S : Type 0} → (S → Call → Reply × S) → S → End × S
-close_of answer s = (end_of (termination_calls answer s).0, (termination_calls answer s).1)
+close_of answer s = (end_of_close (termination_calls answer s).0, (termination_calls answer s).1)
 
 -- ---- words for conditions and for what is left behind
 

@@ -6,7 +6,7 @@ use Rattle.fmi_states.specs.declared.status.FmiStatus.TheVariants as status
 use Rattle.fmi_states.specs.ListEcu.{list_answer, fresh_with}
 use Rattle.unit_specs.specs.Description.{Description, Terminal}
 use Rattle.log_specs.specs.Line.{Loop}
-use Rattle.session_specs.specs.Outcome.{SessionIn, SessionOut, Live, Down}
+use Rattle.session_specs.specs.Outcome.{SessionIn, Live, Down}
 use Rattle.session_specs.specs.Session.{session_of, iterations}
 use Rattle.session_specs.specs.Exchanges.{session_calls}
 

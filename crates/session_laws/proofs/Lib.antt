@@ -1,0 +1,12 @@
+pub mod Freed
+pub mod Went
+pub mod Pieces
+pub mod Counting
+pub mod Repeats
+pub mod Sublists
+pub mod Endings
+pub mod Downs
+pub mod Whole
+pub mod Closing
+pub mod Faults
+pub mod Changes
