@@ -18,3 +18,4 @@ pub mod Lined
 pub mod Planned
 pub mod Ended
 pub mod Counted
+pub mod Cases

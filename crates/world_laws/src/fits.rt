@@ -12,6 +12,7 @@ ghost use Rattle.world_specs.specs.Step.{outcome_of, world_behind};
 ghost use Rattle.world_specs.specs.Network.{network};
 ghost use Rattle.world_specs.specs.Plan.{Plan, IsPlan, opening_of, units_of};
 ghost use Rattle.world_specs.specs.Fits.{UnitsFit, is_live_node, Fits};
+ghost use Rattle.world_laws.specs.Cases.{two_buses};
 ghost use Rattle.world_laws.specs.Words.{AllCounted, AnswersBytes, IsSessions, IsLeft, NothingWaits};
 
 /// The units of a plan set clocks behind the moment of their session and emit bytes, where each answers
@@ -62,4 +63,9 @@ pub fn numbers_stay_small<S>()
     ensures step { (u : Units S) (w : World S) (e : Event) → Fits w → AllCounted w → AllCounted (world_behind u w e) }
     ensures along { (u : Units S) (stop events : ℕ) (w : World S) → UnitsFit u → Fits w → AllCounted w
         → AllCounted (behind (network u stop) events w) }
+{}
+
+/// There are plans, so there are networks that fit.
+pub fn the_laws_have_cases()
+    ensures plan { IsPlan two_buses }
 {}

@@ -12,8 +12,8 @@ pub use events::{
 };
 pub use fits::{
     a_moment_has_one_sessions, each_event_comes_behind_the_last, numbers_stay_small,
-    plans_open_networks_that_fit, sessions_leave_nothing_waiting, units_of_a_plan_fit,
-    what_fits_goes_on_to_fit, who_is_not_live_holds_nothing,
+    plans_open_networks_that_fit, sessions_leave_nothing_waiting, the_laws_have_cases,
+    units_of_a_plan_fit, what_fits_goes_on_to_fit, who_is_not_live_holds_nothing,
 };
 pub use nodes::{
     only_live_nodes_are_closed, only_who_takes_part_changes, others_have_no_session, sessions_join,
