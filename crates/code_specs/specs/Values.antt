@@ -1,5 +1,5 @@
 -- Values (WebAssembly Core 1.0, section 4.2.1), and values of given types on top of a stack.
-use Rattle.std.specs.Prelude.{ℕ, ◌+◌, ◌%◌, ◌^◌, ◌&&◌, Bool, true, false, List, [], ◌∷◌, Option, Some, None, map, nat_lt, if◌then◌else◌}
+use Rattle.std.specs.Prelude.{ℕ, zero, suc, ◌%◌, ◌^◌, ◌&&◌, Bool, true, false, List, [], ◌∷◌, Option, Some, None, map, nat_lt, if◌then◌else◌}
 use Rattle.wasm_types.specs.declared.instr.ValType.{ValType}
 use Rattle.wasm_types.specs.declared.instr.ValType.TheVariants.{I32, I64}
 use Rattle.wasm_types.specs.Spellable.{width}
@@ -49,3 +49,9 @@ abbrev pub split : List ValType → List Value → Option (Split Value)
 split [] vs = Some (record { top = []; below = vs })
 split (t ∷ ts) [] = None
 split (t ∷ ts) (v ∷ vs) = if is_of t v then with_top v (split ts vs) else None
+
+-- so many of the topmost, and those below
+abbrev pub split_first : {V : Type 0} → ℕ → List V → Option (Split V)
+split_first zero vs = Some (record { top = []; below = vs })
+split_first (suc n) [] = None
+split_first (suc n) (v ∷ vs) = with_top v (split_first n vs)
