@@ -1,0 +1,5 @@
+-- Worked values, by what they are of.
+pub mod Operators32
+pub mod Operators64
+pub mod Sample
+pub mod MemoryRows
