@@ -36,11 +36,11 @@ pub record Computed : Type 0 where
   pub number : ℕ
   pub store : Store
 
-abbrev pub Computes : Type 0
-Computes = Result Computed TrapKind
+abbrev pub Meaning : Type 0
+Meaning = Result Computed TrapKind
 
-abbrev pub gives : ℕ → Store → Computes
-gives n s = Ok (record { number = n; store = s })
+abbrev pub computed : ℕ → Store → Meaning
+computed n s = Ok (record { number = n; store = s })
 
 -- ---- plain instructions, over the numbers of their operands (4.4.1, 4.4.3, 4.4.4)
 
@@ -48,51 +48,51 @@ abbrev pub trap_of : NumTrap → TrapKind
 trap_of num.ZeroDivide = trap.ZeroDivide
 trap_of num.Overflow = trap.Overflow
 
-abbrev pub numeric : Result ℕ NumTrap → Store → Computes
-numeric (Ok n) s = gives n s
-numeric (Err e) s = Err (trap_of e)
+abbrev pub numeric_meaning : Result ℕ NumTrap → Store → Meaning
+numeric_meaning (Ok n) s = computed n s
+numeric_meaning (Err e) s = Err (trap_of e)
 
 -- i32.load8_s, i32.load16_s, i64.load8_s, i64.load16_s and i64.load32_s
 abbrev pub is_signed_load : ℕ → Bool
 is_signed_load op = list_any (λ signed. op == signed) (0x2C ∷ 0x2E ∷ 0x30 ∷ 0x32 ∷ 0x34 ∷ [])
 
 -- the number that a load makes of its bytes; the loads of i64 that are narrow have the opcodes from 0x30 on
-abbrev pub extended : ℕ → List ℕ → ℕ
-extended op bytes =
+abbrev pub number_loaded : ℕ → List ℕ → ℕ
+number_loaded op bytes =
     if is_signed_load op then extend_s (8 * length bytes) (if nat_lt op 0x30 then 32 else 64) (number_of_bytes bytes)
     else number_of_bytes bytes
 
-abbrev pub loaded : ℕ → Store → Option (List ℕ) → Computes
-loaded op s None = Err trap.Memory
-loaded op s (Some bytes) = gives (extended op bytes) s
+abbrev pub load_meaning : ℕ → Store → Option (List ℕ) → Meaning
+load_meaning op s None = Err trap.Memory
+load_meaning op s (Some bytes) = computed (number_loaded op bytes) s
 
-abbrev pub stored : ℕ → List ℕ → Store → Option (List ℕ) → Computes
-stored address new s None = Err trap.Memory
-stored address new s (Some old) = gives 0 (record s { bytes = replaced_at s.bytes address new })
+abbrev pub store_meaning : ℕ → List ℕ → Store → Option (List ℕ) → Meaning
+store_meaning address new s None = Err trap.Memory
+store_meaning address new s (Some old) = computed 0 (record s { bytes = replaced_at s.bytes address new })
 
 -- the memory with so many pages of zeros more, and its size before in pages; or -1, and no page more, where the
 -- module's greatest size or 256 pages would be exceeded
-abbrev pub grown : NestedModule → ℕ → Store → Computes
-grown m more s =
+abbrev pub grow_meaning : NestedModule → ℕ → Store → Meaning
+grow_meaning m more s =
     if nat_le (pages s + more) (greatest_pages m)
-    then gives (pages s) (record s { bytes = s.bytes ++ replicate (more * page_size) 0 })
-    else gives (unsigned 32 (negsuc 0)) s
+    then computed (pages s) (record s { bytes = s.bytes ++ replicate (more * page_size) 0 })
+    else computed (unsigned 32 (negsuc 0)) s
 
 -- what a plain instruction makes of its operands, the top first. Where it gives no operand the number is 0.
-unfoldable pub meaning_of : NestedModule → Instr → List ℕ → Store → Computes
-meaning_of m (instr.I32Const z) numbers s = gives (unsigned 32 z) s
-meaning_of m (instr.I64Const z) numbers s = gives (unsigned 64 z) s
-meaning_of m (instr.Numeric op) (i ∷ []) s = gives (unary op i) s
-meaning_of m (instr.Numeric op) (j ∷ i ∷ []) s = numeric (binary op i j) s
-meaning_of m (instr.Globals op index) [] s = gives (slice_index s.globals index) s
-meaning_of m (instr.Globals op index) (n ∷ []) s = gives 0 (record s { globals = slice_set s.globals index n })
+unfoldable pub meaning_of : NestedModule → Instr → List ℕ → Store → Meaning
+meaning_of m (instr.I32Const z) numbers s = computed (unsigned 32 z) s
+meaning_of m (instr.I64Const z) numbers s = computed (unsigned 64 z) s
+meaning_of m (instr.Numeric op) (i ∷ []) s = computed (unary op i) s
+meaning_of m (instr.Numeric op) (j ∷ i ∷ []) s = numeric_meaning (binary op i j) s
+meaning_of m (instr.Globals op index) [] s = computed (slice_index s.globals index) s
+meaning_of m (instr.Globals op index) (n ∷ []) s = computed 0 (record s { globals = slice_set s.globals index n })
 meaning_of m (instr.Access op align offset) (base ∷ []) s =
-    loaded op s (bytes_at s.bytes (base + offset) (access_bytes op))
+    load_meaning op s (bytes_at s.bytes (base + offset) (access_bytes op))
 meaning_of m (instr.Access op align offset) (n ∷ base ∷ []) s =
-    stored (base + offset) (bytes_of (access_bytes op) n) s (bytes_at s.bytes (base + offset) (access_bytes op))
-meaning_of m instr.MemorySize [] s = gives (pages s) s
-meaning_of m instr.MemoryGrow (more ∷ []) s = grown m more s
-meaning_of m nop numbers s = gives 0 s
+    store_meaning (base + offset) (bytes_of (access_bytes op) n) s (bytes_at s.bytes (base + offset) (access_bytes op))
+meaning_of m instr.MemorySize [] s = computed (pages s) s
+meaning_of m instr.MemoryGrow (more ∷ []) s = grow_meaning m more s
+meaning_of m nop numbers s = computed 0 s
 
 -- ---- operands with their types, and bare numbers
 
@@ -129,7 +129,7 @@ on_i32 o operands go = on_split (o.split (I32 ∷ []) operands) (λ top below. o
 abbrev pub results : {V : Type 0} → Operands V → List ValType → ℕ → List V
 results o ts n = map (λ t. o.operand t n) ts
 
-abbrev pub after_meaning : {V : Type 0} → Operands V → List ValType → List V → Computes → Effect V
+abbrev pub after_meaning : {V : Type 0} → Operands V → List ValType → List V → Meaning → Effect V
 after_meaning o ts below (Ok c) = Continues (results o ts c.number ++ below) c.store
 after_meaning o ts below (Err kind) = Traps kind
 
@@ -143,10 +143,10 @@ abbrev pub branch_if : {V : Type 0} → (condition label : ℕ) → List V → S
 branch_if condition label below s = if condition == 0 then Continues below s else Branches label below
 
 -- select (4.4.2): the lower of two operands of one type where the condition isn't 0, else the upper one
-abbrev pub selected : {V : Type 0} → Operands V → (condition : ℕ) → List V → Store → Effect V
-selected o condition (upper ∷ lower ∷ below) s =
+abbrev pub selection : {V : Type 0} → Operands V → (condition : ℕ) → List V → Store → Effect V
+selection o condition (upper ∷ lower ∷ below) s =
     if o.is_alike lower upper then Continues ((if condition == 0 then upper else lower) ∷ below) s else Stuck
-selected o condition other s = Stuck
+selection o condition other s = Stuck
 
 -- call_indirect (4.4.5): the function at an index of the table, if it has the type that is asked for
 abbrev pub checked_call : {V : Type 0} → ℕ → Option FuncType → Option FuncType → List V → Effect V
@@ -177,6 +177,6 @@ effect_of o m (instr.Call index) operands s = Calls index operands
 effect_of o m (instr.CallIndirect ty) operands s =
     on_i32 o operands (λ index below. indirect_call m ty (slice_get (table_of m) index) below)
 effect_of o m instr.Drop operands s = on_one operands (λ v below. Continues below s)
-effect_of o m instr.Select operands s = on_i32 o operands (λ condition below. selected o condition below s)
+effect_of o m instr.Select operands s = on_i32 o operands (λ condition below. selection o condition below s)
 effect_of o m (instr.Local op index) operands s = local_effect op index operands
 effect_of o m i operands s = plain_effect o m i (signature_of m i) operands s

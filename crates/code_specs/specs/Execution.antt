@@ -8,15 +8,11 @@ use Rattle.wasm_types.specs.Nested.{Code, Nil, Leaf, InBlock, InLoop, IfOnly, If
 use Rattle.wasm_types.specs.Modules.{NestedModule}
 use Rattle.code_specs.specs.declared.trap.TrapKind.{TrapKind}
 use Rattle.code_specs.specs.declared.trap.TrapKind.TheVariants.{Depth}
-use Rattle.code_specs.specs.Values.{Value, Split, is_same, zero_of, split}
+use Rattle.code_specs.specs.Values.{Value, Split, is_same, zero_of, split, most_slots}
 use Rattle.code_specs.specs.Stores.{Store}
 use Rattle.code_specs.specs.Signatures.{Function, function_at, types_of}
 use Rattle.code_specs.specs.Effects.{Effect, typed, effect_of}
 use Rattle.code_specs.specs.Effects as effect
-
--- locals and operands of one frame
-abbrev pub most_slots : ℕ
-most_slots = 4096
 
 abbrev pub most_frames : ℕ
 most_frames = 256
@@ -100,12 +96,12 @@ iterations zero body locals s fuel = Over (Spent s)
 iterations (suc n) body locals s fuel = after_iteration (iterations n body) (body locals [] s fuel)
 
 -- each iteration but the last takes a unit, so there is at most one more than there are units
-abbrev pub looped : Run → List Value → Store → (fuel : ℕ) → Outcome
-looped body locals s fuel = iterations (suc fuel) body locals s fuel
+abbrev pub loop_outcome : Run → List Value → Store → (fuel : ℕ) → Outcome
+loop_outcome body locals s fuel = iterations (suc fuel) body locals s fuel
 
 -- a condition picks one of two, over the operands below it
-abbrev pub chosen : List Value → (one other : List Value → Outcome) → Outcome
-chosen operands one other = on_found (split (I32 ∷ []) operands) (λ s. of_top s.top s.below)
+abbrev pub choice : List Value → (one other : List Value → Outcome) → Outcome
+choice operands one other = on_found (split (I32 ∷ []) operands) (λ s. of_top s.top s.below)
   where
     of_top : List Value → List Value → Outcome
     of_top [] below = Over Stuck
@@ -125,16 +121,16 @@ exec m call held (InBlock r inner rest) locals operands s fuel =
 exec m call held (InLoop r inner rest) locals operands s fuel =
     within held operands (paying s fuel (λ fuel.
     after_block [] operands (exec m call held rest)
-    (looped (exec m call (held + length operands) inner) locals s fuel)))
+    (loop_outcome (exec m call (held + length operands) inner) locals s fuel)))
 exec m call held (IfOnly r inner rest) locals operands s fuel =
     within held operands (paying s fuel (λ fuel.
-    chosen operands
+    choice operands
     (λ below. after_block (types_of r) below (exec m call held rest)
     (exec m call (held + length below) inner locals [] s fuel))
     (λ below. exec m call held rest locals below s fuel)))
 exec m call held (IfElse r first second rest) locals operands s fuel =
     within held operands (paying s fuel (λ fuel.
-    chosen operands
+    choice operands
     (λ below. after_block (types_of r) below (exec m call held rest)
     (exec m call (held + length below) first locals [] s fuel))
     (λ below. after_block (types_of r) below (exec m call held rest)
@@ -143,16 +139,16 @@ exec m call held (IfElse r first second rest) locals operands s fuel =
 -- ---- calls (4.4.7)
 
 -- the results on top are what is returned
-abbrev pub returned : Option (Split Value) → Store → (fuel : ℕ) → Answer Value
-returned None s fuel = Stuck
-returned (Some vs) s fuel = Returned vs.top s fuel
+abbrev pub answer_with : Option (Split Value) → Store → (fuel : ℕ) → Answer Value
+answer_with None s fuel = Stuck
+answer_with (Some vs) s fuel = Returned vs.top s fuel
 
 -- a body ends, by itself, by a branch to the label of the body, or by a return
 abbrev pub answer_after : List ValType → Outcome → Answer Value
-answer_after results (Next locals operands s fuel) = returned (split results operands) s fuel
-answer_after results (Branch zero locals operands s fuel) = returned (split results operands) s fuel
+answer_after results (Next locals operands s fuel) = answer_with (split results operands) s fuel
+answer_after results (Branch zero locals operands s fuel) = answer_with (split results operands) s fuel
 answer_after results (Branch (suc label) locals operands s fuel) = Stuck
-answer_after results (Return operands s fuel) = returned (split results operands) s fuel
+answer_after results (Return operands s fuel) = answer_with (split results operands) s fuel
 answer_after results (Over answer) = answer
 
 -- a function over its locals
@@ -161,8 +157,8 @@ body_answer m call f locals s fuel =
     answer_after (reverse f.ty.results) (exec m call (length locals) f.code locals [] s fuel)
 
 -- a function with its arguments, the last one first; the other locals begin with 0
-abbrev pub entered : NestedModule → Invoke → Function → (arguments : List Value) → Store → (fuel : ℕ) → Answer Value
-entered m call f arguments s fuel = body_answer m call f (reverse arguments ++ map zero_of f.locals) s fuel
+abbrev pub function_answer : NestedModule → Invoke → Function → (arguments : List Value) → Store → (fuel : ℕ) → Answer Value
+function_answer m call f arguments s fuel = body_answer m call f (reverse arguments ++ map zero_of f.locals) s fuel
 
 -- the caller goes on with what is returned on top of its operands
 abbrev pub after_call : (below : List Value) → Continuation → Answer Value → Outcome
@@ -177,7 +173,7 @@ invoke m zero index operands s fuel next = Over (Trapped Depth s fuel)
 invoke m (suc frames) index operands s fuel next =
     on_found (function_at m index) (λ f.
     on_found (split (reverse f.ty.params) operands) (λ arguments.
-    after_call arguments.below next (entered m (invoke m frames) f arguments.top s fuel)))
+    after_call arguments.below next (function_answer m (invoke m frames) f arguments.top s fuel)))
 
 -- numbers as values of these types
 abbrev pub arguments_of : List ValType → List ℕ → List Value
@@ -188,7 +184,7 @@ arguments_of (t ∷ ts) (n ∷ ns) = record { ty = t; bits = n } ∷ arguments_o
 abbrev pub answer_of_function : NestedModule → Option Function → List ℕ → Store → (fuel : ℕ) → Answer Value
 answer_of_function m None arguments s fuel = Stuck
 answer_of_function m (Some f) arguments s fuel =
-    entered m (invoke m (most_frames - 1)) f (reverse (arguments_of f.ty.params arguments)) s fuel
+    function_answer m (invoke m (most_frames - 1)) f (reverse (arguments_of f.ty.params arguments)) s fuel
 
 -- a call from outside, in the first frame, with the numbers of its arguments in order (4.5.5)
 unfoldable pub answer_of : NestedModule → (index : ℕ) → (arguments : List ℕ) → Store → (fuel : ℕ) → Answer Value

@@ -10,9 +10,8 @@ use Rattle.wasm_types.specs.Nested.{Code, Nil, Leaf, InBlock, InLoop, IfOnly, If
 use Rattle.wasm_types.specs.Modules.{NestedModule}
 use Rattle.code_specs.specs.declared.rule.Rule.{Rule}
 use Rattle.code_specs.specs.declared.rule.Rule.TheVariants.{Index, Align, Operand, Slots}
-use Rattle.code_specs.specs.Values.{is_same}
+use Rattle.code_specs.specs.Values.{is_same, most_slots}
 use Rattle.code_specs.specs.Signatures.{Signature, Function, types_of, is_same_list, signature_of_type, type_of_function, signature_of, access_bytes}
-use Rattle.code_specs.specs.Execution.{most_slots}
 
 -- ---- tests
 
@@ -106,7 +105,7 @@ with_operands (t ∷ ts) s = with_operand (Some t) (with_operands ts s)
 -- what code may name (3.1.1): what its module has, the types of the locals, those that a branch to each label carries,
 -- the innermost first, and the results of the function
 pub record Context : Type 0 where
-  pub module_parts : NestedModule
+  pub parts : NestedModule
   pub locals : List ValType
   pub labels : List (List ValType)
   pub results : List ValType
@@ -169,36 +168,36 @@ instr_type c (Br label) s = known (slice_get c.labels label) >>= λ ts. never_be
 instr_type c (BrIf label) s = known (slice_get c.labels label) >>= λ ts. through (condition_before ts) s
 instr_type c (BrTable labels default) s = table_branch c labels default s
 instr_type c Return s = never_behind c.results s
-instr_type c (Call index) s = known (type_of_function c.module_parts index) >>= λ f. through (signature_of_type f) s
+instr_type c (Call index) s = known (type_of_function c.parts index) >>= λ f. through (signature_of_type f) s
 instr_type c (CallIndirect ty) s =
-    known (slice_get c.module_parts.tables 0) >>= λ _. known (slice_get c.module_parts.types ty) >>= λ f.
+    known (slice_get c.parts.tables 0) >>= λ _. known (slice_get c.parts.types ty) >>= λ f.
     through (index_before (signature_of_type f)) s
 instr_type c Drop s = popped s >>= λ p. Ok p.rest
 instr_type c Select s = select_type s
 instr_type c (Local op index) s = known (slice_get c.locals index) >>= λ t. through (local_signature op t) s
-instr_type c i s = known (signature_of c.module_parts i) >>= λ g. aligned i >>= λ _. through g s
+instr_type c i s = known (signature_of c.parts i) >>= λ g. aligned i >>= λ _. through g s
 
 -- ---- lists of instructions (3.3.5 and 3.3.6)
 
--- over so many slots that the frame holds below them, the known operands have room
-abbrev pub roomy : (held : ℕ) → OperandTypes → Test OperandTypes
-roomy held s = needs (nat_le (held + height s) most_slots) Slots >>= λ _. Ok s
+-- the known operands have room over the slots that the frame holds below them
+abbrev pub with_room : (held : ℕ) → OperandTypes → Test OperandTypes
+with_room held s = needs (nat_le (held + height s) most_slots) Slots >>= λ _. Ok s
 
 -- a list begins over operands
-abbrev pub opened : (held : ℕ) → OperandTypes → Test OperandTypes
-opened held s = roomy (held + height s) no_operands
+abbrev pub opening : (held : ℕ) → OperandTypes → Test OperandTypes
+opening held s = with_room (held + height s) no_operands
 
 abbrev pub is_empty : OperandTypes → Bool
 is_empty (Stack polymorphic []) = true
 is_empty (Stack polymorphic (t ∷ types)) = false
 
--- a list has exactly its results at its end
-abbrev pub leaves : List ValType → OperandTypes → Test (Unit {0})
-leaves ts s = below_all ts s >>= λ rest. needs (is_empty rest) Operand
+-- exactly operands of these types
+abbrev pub exact : List ValType → OperandTypes → Test (Unit {0})
+exact ts s = below_all ts s >>= λ rest. needs (is_empty rest) Operand
 
--- a list ends with its results, over the operands from before it
-abbrev pub closed : (held : ℕ) → List ValType → (end before : OperandTypes) → Test OperandTypes
-closed held ts end before = leaves ts end >>= λ _. roomy held (with_operands ts before)
+-- a list ends with exactly its results, over the operands from before it
+abbrev pub closing : (held : ℕ) → List ValType → (end before : OperandTypes) → Test OperandTypes
+closing held ts end before = exact ts end >>= λ _. with_room held (with_operands ts before)
 
 abbrev pub with_label : List ValType → Context → Context
 with_label ts c = record c { labels = ts ∷ c.labels }
@@ -209,37 +208,37 @@ pub record Left : Type 0 where
   pub closer : ℕ
 
 -- A list whose first instruction stands at this position, from left to right, or the first failing rule. Under its
--- operands the frame holds so many slots.
+-- operands the frame holds so many slots. An if without an else has an empty second list.
 abbrev pub type_of : Context → (held position : ℕ) → Code → OperandTypes → Found Left
 type_of c held p Nil s = Ok (record { types = s; closer = p })
 type_of c held p (Leaf i rest) s = do
-  s ← at p (instr_type c i s >>= roomy held)
+  s ← at p (instr_type c i s >>= with_room held)
   type_of c held (p + 1) rest s
 type_of c held p (InBlock r inner rest) s = do
-  first ← at p (opened held s)
+  first ← at p (opening held s)
   left ← type_of (with_label (types_of r) c) (held + height s) (p + 1) inner first
-  s ← at left.closer (closed held (types_of r) left.types s)
+  s ← at left.closer (closing held (types_of r) left.types s)
   type_of c held (left.closer + 1) rest s
 type_of c held p (InLoop r inner rest) s = do
-  first ← at p (opened held s)
+  first ← at p (opening held s)
   left ← type_of (with_label [] c) (held + height s) (p + 1) inner first
-  s ← at left.closer (closed held (types_of r) left.types s)
+  s ← at left.closer (closing held (types_of r) left.types s)
   type_of c held (left.closer + 1) rest s
 type_of c held p (IfOnly r inner rest) s = do
   s ← at p (below I32 s)
-  first ← at p (opened held s)
+  first ← at p (opening held s)
   left ← type_of (with_label (types_of r) c) (held + height s) (p + 1) inner first
-  exact ← at left.closer (leaves (types_of r) left.types)
-  s ← at left.closer (closed held (types_of r) no_operands s)
+  whole ← at left.closer (exact (types_of r) left.types)
+  s ← at left.closer (closing held (types_of r) no_operands s)
   type_of c held (left.closer + 1) rest s
 type_of c held p (IfElse r one two rest) s = do
   s ← at p (below I32 s)
-  first ← at p (opened held s)
+  first ← at p (opening held s)
   left ← type_of (with_label (types_of r) c) (held + height s) (p + 1) one first
-  exact ← at left.closer (leaves (types_of r) left.types)
-  second ← at left.closer (opened held s)
+  whole ← at left.closer (exact (types_of r) left.types)
+  second ← at left.closer (opening held s)
   last ← type_of (with_label (types_of r) c) (held + height s) (left.closer + 1) two second
-  s ← at last.closer (closed held (types_of r) last.types s)
+  s ← at last.closer (closing held (types_of r) last.types s)
   type_of c held (last.closer + 1) rest s
 
 -- ---- functions (3.4.1)
@@ -247,7 +246,7 @@ type_of c held p (IfElse r one two rest) s = do
 -- the parameters are the first locals, and the body is a block with the function's results
 abbrev pub context_of : NestedModule → Function → Context
 context_of m f = record {
-  module_parts = m;
+  parts = m;
   locals = f.ty.params ++ f.locals;
   labels = reverse f.ty.results ∷ [];
   results = reverse f.ty.results;
@@ -257,7 +256,7 @@ context_of m f = record {
 abbrev pub type_of_body : Context → Code → Found OperandTypes
 type_of_body c code = do
   left ← type_of c (length c.locals) 0 code no_operands
-  at left.closer (closed (length c.locals) c.results left.types no_operands)
+  at left.closer (closing (length c.locals) c.results left.types no_operands)
 
 unfoldable pub type_of_func : NestedModule → Function → Found OperandTypes
 type_of_func m f = type_of_body (context_of m f) f.code

@@ -36,12 +36,12 @@ abbrev pub each : {A : Type 0} → Rule → (A → Bool) → List A → Verdict
 each r test items = fails_at r (first_failing test 0 items)
 
 -- 3.2.2: one result at most
-abbrev pub has_one_result : FuncType → Bool
-has_one_result f = nat_le (length f.results) 1
+abbrev pub hxsone_result : FuncType → Bool
+hxsone_result f = nat_le (length f.results) 1
 
 -- 3.4.1: the type of a function is there
-abbrev pub has_type : NestedModule → NestedFunc → Bool
-has_type m f = nat_lt f.ty (length m.types)
+abbrev pub hxstype : NestedModule → NestedFunc → Bool
+hxstype m f = nat_lt f.ty (length m.types)
 
 -- 3.2.1: the least size isn't over the greatest
 abbrev pub is_ordered : Limits → Bool
@@ -72,9 +72,9 @@ count_of_kind m kind =
 
 abbrev pub is_same_name : List ℕ → List ℕ → Bool
 is_same_name [] [] = true
-is_same_name [] (b ∷ bs) = false
-is_same_name (a ∷ as_) [] = false
-is_same_name (a ∷ as_) (b ∷ bs) = a == b && is_same_name as_ bs
+is_same_name [] (y ∷ ys) = false
+is_same_name (x ∷ xs) [] = false
+is_same_name (x ∷ xs) (y ∷ ys) = x == y && is_same_name xs ys
 
 -- 3.4.8 and 3.4.10: what is exported is there, and no export before has its name
 abbrev pub failing_export : NestedModule → List (List ℕ) → (place : ℕ) → List Export → Option ℕ
@@ -120,8 +120,8 @@ bodies_verdict m place (f ∷ fs) =
 -- all rules, in order
 unfoldable pub validity : NestedModule → Verdict
 validity m = do
-  types ← each rule.TypeResult has_one_result m.types
-  funcs ← each rule.FuncType (has_type m) m.funcs
+  types ← each rule.TypeResult hxsone_result m.types
+  funcs ← each rule.FuncType (hxstype m) m.funcs
   tables ← fails_at rule.Limits (failing_limits is_ordered m.tables)
   memories ← fails_at rule.Limits (failing_limits is_memory_type m.memories)
   globals ← each rule.Global is_initialized m.globals

@@ -55,3 +55,7 @@ abbrev pub split_first : {V : Type 0} → ℕ → List V → Option (Split V)
 split_first zero vs = Some (record { top = []; below = vs })
 split_first (suc n) [] = None
 split_first (suc n) (v ∷ vs) = with_top v (split_first n vs)
+
+-- the slots of a frame: each local and each operand takes one
+abbrev pub most_slots : ℕ
+most_slots = 4096

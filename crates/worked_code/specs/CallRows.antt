@@ -1,18 +1,18 @@
 -- Calls, with the fuel counted by hand.
-use Rattle.std.specs.Prelude.{◌≡◌, ℕ, List, [], ◌∷◌, ◌++◌, Option, Some, None, refl}
-use Rattle.wasm_types.specs.declared.instr.ValType.TheVariants.{I32, I64}
+use Rattle.std.specs.Prelude.{◌≡◌, ℕ, List, [], ◌∷◌, None, refl}
+use Rattle.wasm_types.specs.declared.instr.ValType.TheVariants.{I64}
 use Rattle.wasm_types.specs.declared.instr.Instr.TheVariants.{Nop, Call, CallIndirect, Numeric}
-use Rattle.wasm_types.specs.Nested.{Code, Nil, Leaf, InBlock}
+use Rattle.wasm_types.specs.Nested.{InBlock}
 use Rattle.wasm_types.specs.Modules.{NestedModule}
 use Rattle.code_specs.specs.declared.trap.TrapKind.TheVariants as trap
 use Rattle.code_specs.specs.Values.{Value}
-use Rattle.code_specs.specs.Stores.{Store, bytes_of}
+use Rattle.code_specs.specs.Stores.{bytes_of}
 use Rattle.code_specs.specs.Numerics.{unary, binary}
 use Rattle.code_specs.specs.Signatures.{signature_of, opcode_signature, access_bytes}
 use Rattle.code_specs.specs.Effects.{meaning_of, effect_of}
 use Rattle.code_specs.specs.Instances.{table_of}
-use Rattle.code_specs.specs.Execution.{Answer, Returned, Trapped, Spent, Stuck, invoke, answer_of, fuel_left}
-use Rattle.worked_code.specs.Sample.{i32, i64, code, const32, const64, get, put, add32, func, sample, opening}
+use Rattle.code_specs.specs.Execution.{Answer, Returned, Trapped, Spent, Stuck, invoke, answer_of}
+use Rattle.worked_code.specs.Sample.{i32, i64, code, const32, const64, get, add32, func, sample, opening}
 
 
 -- Function 0 is () -> () and function 1 is () -> i32; these two are in the table, at 1 and 2. Function 2 is i32 i64 ->

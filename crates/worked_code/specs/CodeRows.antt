@@ -1,19 +1,17 @@
 -- Blocks, loops, branches and choices, with the fuel counted by hand: one unit for each instruction that begins.
-use Rattle.std.specs.Prelude.{◌≡◌, ℕ, List, [], ◌∷◌, ◌++◌, Option, Some, None, replicate, refl}
-use Rattle.wasm_types.specs.declared.instr.ValType.{ValType}
+use Rattle.std.specs.Prelude.{◌≡◌, ℕ, [], ◌∷◌, Some, None, replicate, refl}
 use Rattle.wasm_types.specs.declared.instr.ValType.TheVariants.{I32, I64}
-use Rattle.wasm_types.specs.declared.instr.Instr.{Instr}
 use Rattle.wasm_types.specs.declared.instr.Instr.TheVariants.{Unreachable, Nop, Br, BrIf, BrTable, Return, Drop, Select, Globals, Access, Numeric}
 use Rattle.wasm_types.specs.Nested.{Code, Nil, Leaf, InBlock, InLoop, IfOnly, IfElse}
 use Rattle.code_specs.specs.declared.trap.TrapKind.TheVariants as trap
 use Rattle.code_specs.specs.Values.{Value}
-use Rattle.code_specs.specs.Stores.{Store, bytes_of}
+use Rattle.code_specs.specs.Stores.{bytes_of}
 use Rattle.code_specs.specs.Numerics.{unary, binary}
 use Rattle.code_specs.specs.Signatures.{signature_of, opcode_signature, access_bytes}
 use Rattle.code_specs.specs.Effects.{meaning_of, effect_of}
 use Rattle.code_specs.specs.Instances.{table_of}
 use Rattle.code_specs.specs.Execution.{Answer, Returned, Trapped, Spent, Stuck, invoke, answer_of}
-use Rattle.worked_code.specs.Sample.{i32, i64, code, const32, const64, get, put, tee, add32, func, sample, opening}
+use Rattle.worked_code.specs.Sample.{i32, code, const32, const64, get, put, tee, add32, func, sample, opening}
 
 -- a function i32 -> i32 with this body and a local of type i64, called with an argument and fuel
 abbrev run : Code → ℕ → ℕ → Answer Value

@@ -1,5 +1,5 @@
 -- Each load and store, the size of a memory and its growth.
-use Rattle.std.specs.Prelude.{◌≡◌, ℕ, List, [], ◌∷◌, Some, None, replicate, length, refl}
+use Rattle.std.specs.Prelude.{◌≡◌, ℕ, List, [], ◌∷◌, None, replicate, refl}
 use Rattle.wasm_types.specs.declared.instr.Instr.TheVariants.{Access, MemorySize, MemoryGrow}
 use Rattle.wasm_types.specs.Modules.{NestedModule}
 use Rattle.module_specs.specs.ModuleSpelling.{empty}

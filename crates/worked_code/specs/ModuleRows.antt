@@ -1,7 +1,6 @@
 -- Rules of a module, in their order, with the place of what fails.
 use Rattle.std.specs.Prelude.{◌≡◌, ℕ, true, List, [], ◌∷◌, Option, Some, None, Ok, Err, refl}
 use Rattle.wasm_types.specs.declared.instr.ValType.TheVariants.{I32, I64}
-use Rattle.wasm_types.specs.declared.module.FuncType.{FuncType}
 use Rattle.wasm_types.specs.declared.module.Limits.{Limits}
 use Rattle.wasm_types.specs.declared.module.Export.{Export}
 use Rattle.wasm_types.specs.declared.module.Element.{Element}

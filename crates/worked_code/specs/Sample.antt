@@ -1,5 +1,5 @@
 -- What the worked values are computed on: a module with a part of each kind, and short names for what code is made of.
-use Rattle.std.specs.Prelude.{ℕ, true, false, List, [], ◌∷◌, ◌++◌, pos, Option, Some, None}
+use Rattle.std.specs.Prelude.{ℕ, true, false, List, [], ◌∷◌, pos, Some, None}
 use Rattle.wasm_types.specs.declared.instr.ValType.{ValType}
 use Rattle.wasm_types.specs.declared.instr.ValType.TheVariants.{I32, I64}
 use Rattle.wasm_types.specs.declared.instr.Instr.{Instr}

@@ -1,10 +1,8 @@
 -- Typed bodies, and bodies with their first failing rule and the position of the instruction in the flat body.
-use Rattle.std.specs.Prelude.{◌≡◌, ℕ, List, [], ◌∷◌, Option, Some, None, Ok, Err, replicate, refl}
-use Rattle.wasm_types.specs.declared.instr.ValType.{ValType}
+use Rattle.std.specs.Prelude.{◌≡◌, ℕ, [], ◌∷◌, Some, None, Ok, Err, replicate, refl}
 use Rattle.wasm_types.specs.declared.instr.ValType.TheVariants.{I32, I64}
 use Rattle.wasm_types.specs.declared.instr.Instr.TheVariants.{Unreachable, Nop, Br, BrIf, BrTable, Return, Call, CallIndirect, Drop, Select, Globals, Access, MemorySize, MemoryGrow, Numeric}
 use Rattle.wasm_types.specs.Nested.{Code, Nil, Leaf, InBlock, InLoop, IfOnly, IfElse}
-use Rattle.wasm_types.specs.Modules.{NestedModule}
 use Rattle.module_specs.specs.ModuleSpelling.{empty}
 use Rattle.code_specs.specs.declared.rule.Rule.{Rule}
 use Rattle.code_specs.specs.declared.rule.Rule.TheVariants.{Index, Align, Operand, Slots}
