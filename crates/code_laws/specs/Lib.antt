@@ -1,1 +1,3 @@
+-- What the laws say, beside the definitions themselves.
 pub mod Codes
+pub mod Answers
