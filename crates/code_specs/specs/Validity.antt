@@ -36,12 +36,12 @@ abbrev pub each : {A : Type 0} → Rule → (A → Bool) → List A → Verdict
 each r test items = fails_at r (first_failing test 0 items)
 
 -- 3.2.2: one result at most
-abbrev pub hxsone_result : FuncType → Bool
-hxsone_result f = nat_le (length f.results) 1
+abbrev pub has_one_result : FuncType → Bool
+has_one_result f = nat_le (length f.results) 1
 
 -- 3.4.1: the type of a function is there
-abbrev pub hxstype : NestedModule → NestedFunc → Bool
-hxstype m f = nat_lt f.ty (length m.types)
+abbrev pub has_type : NestedModule → NestedFunc → Bool
+has_type m f = nat_lt f.ty (length m.types)
 
 -- 3.2.1: the least size isn't over the greatest
 abbrev pub is_ordered : Limits → Bool
@@ -120,8 +120,8 @@ bodies_verdict m place (f ∷ fs) =
 -- all rules, in order
 unfoldable pub validity : NestedModule → Verdict
 validity m = do
-  types ← each rule.TypeResult hxsone_result m.types
-  funcs ← each rule.FuncType (hxstype m) m.funcs
+  types ← each rule.TypeResult has_one_result m.types
+  funcs ← each rule.FuncType (has_type m) m.funcs
   tables ← fails_at rule.Limits (failing_limits is_ordered m.tables)
   memories ← fails_at rule.Limits (failing_limits is_memory_type m.memories)
   globals ← each rule.Global is_initialized m.globals
