@@ -12,10 +12,12 @@ use Rattle.code_specs.specs.Signatures.{Function, function_at, type_of_function}
 use Rattle.code_specs.specs.Execution.{Answer, Returned, Trapped, Spent, Stuck, Outcome, Next, Branch, Return, Over, Invoke, Continuation, most_frames, on_found, exec, answer_with, answer_after, body_answer, function_answer, after_call, invoke, arguments_of, answer_of_function, answer_of}
 use Rattle.code_specs.specs.Typing.{OperandTypes, Left, Context, ◌>>=◌, at, height, no_operands, with_operands, exact, closing, with_room, type_of, context_of, type_of_body, type_of_func}
 use Rattle.code_specs.specs.Validity.{IsValid}
+use Rattle.code_laws.specs.Codes.{HasItsLabels}
 use Rattle.code_laws.specs.Answers.{IsValue, AreValues, Fit, AnswersWith}
 use Rattle.code_laws.proofs.Tests.{passed, at_passed, some_is, room_is}
 use Rattle.code_laws.proofs.Stacks.{is_of-value, zeros_are, are_length, are_append, are_reverse, Reached, exact_is}
 use Rattle.code_laws.proofs.Effected.{Top, HasTable}
+use Rattle.code_laws.proofs.Labels.{code_labels}
 use Rattle.code_laws.proofs.Runs.{Good, GoodCalls, sound}
 use Rattle.code_laws.proofs.Parts.{Parts, parts_of, table_is, functions_typed}
 
@@ -141,3 +143,35 @@ pub never_stuck : (m : NestedModule) → IsValid m → (index : ℕ) (f : Functi
     → function_at m index ≡ Some f → Fit f.ty.params arguments → answer_of m index arguments st fuel ≡ Stuck → ⊥
 never_stuck m valid index f arguments st fuel is fit =
     not_stuck (reverse f.ty.results) (answer_of m index arguments st fuel) (answers m valid index f arguments st fuel is fit)
+
+-- what a typed body leaves
+pub body_leaves : (m : NestedModule) (f : Function) (s : OperandTypes) → type_of_func m f ≡ Ok s → with_operands (reverse f.ty.results) no_operands ≡ s
+unfolding type_of_func
+body_leaves m f s is =
+    let ts = reverse f.ty.results in
+    let n = length (f.ty.params ++ f.locals) in
+    let x = passed (type_of (context_of m f) n 0 f.code no_operands) _ s is in
+    let y = passed (exact ts x.it.types) (λ _. with_room n (with_operands ts no_operands)) s (at_passed x.it.closer (closing n ts x.it.types no_operands) s x.then) in
+    (room_is n (with_operands ts no_operands) s y.then).1
+
+pub body_labels : (m : NestedModule) (f : Function) (s : OperandTypes) → type_of_func m f ≡ Ok s → HasItsLabels 1 f.code
+unfolding type_of_func
+body_labels m f s is =
+    let n = length (f.ty.params ++ f.locals) in
+    let x = passed (type_of (context_of m f) n 0 f.code no_operands) _ s is in
+    code_labels (context_of m f) n 0 f.code no_operands x.it x.is
+
+-- where the end of a typed body is come to, exactly its results are there
+pub end_has_results : (m : NestedModule) → IsValid m → (index : ℕ) (f : Function) → function_at m index ≡ Some f
+    → (frames : ℕ) (l : List Value) (st : Store) (fuel : ℕ) → AreValues (f.ty.params ++ f.locals) l
+    → (l' vs : List Value) (st' : Store) (fuel' : ℕ) → exec m (invoke m frames) (length l) f.code l [] st fuel ≡ Next l' vs st' fuel'
+    → AreValues (reverse f.ty.results) vs
+end_has_results m valid index f is frames l st fuel are l' vs st' fuel' next =
+    let p = parts_of m valid in
+    let typed_body = functions_typed m p index f is in
+    let b = body_is m f typed_body.0 typed_body.1 in
+    let c = context_of m f in
+    let n = are_length (f.ty.params ++ f.locals) l are in
+    let g = sound (invoke m frames) f.code c (table_is m p) (calls_good m p frames) (length (f.ty.params ++ f.locals)) 0 no_operands b.left b.room b.is l [] st fuel tt are in
+    let g' : Good c b.left.types (Next l' vs st' fuel') = subst (Good c b.left.types) next (subst (λ k. Good c b.left.types (exec m (invoke m frames) k f.code l [] st fuel)) (sym n) g) in
+    exact_is (reverse f.ty.results) b.left.types tt vs b.whole g'.0

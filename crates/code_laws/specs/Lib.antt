@@ -1,3 +1,4 @@
 -- What the laws say, beside the definitions themselves.
 pub mod Codes
 pub mod Answers
+pub mod Fuel

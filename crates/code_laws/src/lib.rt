@@ -1,2 +1,11 @@
 //! What holds of typed code and of what code does, for all code: each law is the contract of a call that does nothing.
 #![tactic(auto)]
+
+mod sound_calls;
+mod typed_code;
+
+pub use sound_calls::{calls_return_values_of_their_types, valid_calls_are_never_stuck};
+pub use typed_code::{
+    branches_lead_to_labels_that_are_there, typed_bodies_leave_exactly_their_results,
+    typing_goes_from_left_to_right,
+};
