@@ -2,9 +2,11 @@
 #![tactic(auto)]
 
 mod sound_calls;
+mod spent_fuel;
 mod typed_code;
 
 pub use sound_calls::{calls_return_values_of_their_types, valid_calls_are_never_stuck};
+pub use spent_fuel::{calls_that_end_use_the_same_fuel, fuel_never_rises, loops_begin_again};
 pub use typed_code::{
     branches_lead_to_labels_that_are_there, typed_bodies_leave_exactly_their_results,
     typing_goes_from_left_to_right,
