@@ -76,7 +76,7 @@ function_good m ht call gc f b arguments st fuel are =
     let c = context_of m f in
     let l = reverse arguments ++ map zero_of f.locals in
     let params : AreValues f.ty.params (reverse arguments)
-               = subst (λ ts. AreValues ts (reverse arguments)) (reverse-reverse f.ty.params) (are_reverse (reverse f.ty.params) arguments are) in
+    = subst (λ ts. AreValues ts (reverse arguments)) (reverse-reverse f.ty.params) (are_reverse (reverse f.ty.params) arguments are) in
     let locals : AreValues (f.ty.params ++ f.locals) l = are_append f.ty.params f.locals (reverse arguments) (map zero_of f.locals) params (zeros_are f.locals) in
     let n = are_length (f.ty.params ++ f.locals) l locals in
     let g = sound call f.code c ht gc (length (f.ty.params ++ f.locals)) 0 no_operands b.left b.room b.is l [] st fuel tt locals in
@@ -112,7 +112,7 @@ calls_good m p (suc frames) = record {
       let arguments_is : split (reverse f.ty.params) vs ≡ Some top.parts = ap (λ (t : FuncType). split (reverse t.params) vs) x.2 ∙ top.is in
       let are : AreValues (reverse f.ty.params) top.parts.top = subst (λ (t : FuncType). AreValues (reverse t.params) top.parts.top) (sym x.2) top.are in
       let g' : (results : List Value) (st : Store) (fuel : ℕ) → AreValues (reverse f.ty.results) results → Good c e (next (results ++ top.parts.below) st fuel)
-             = subst (λ (t : FuncType). (results : List Value) (st : Store) (fuel : ℕ) → AreValues (reverse t.results) results → Good c e (next (results ++ top.parts.below) st fuel)) (sym x.2) g in
+      = subst (λ (t : FuncType). (results : List Value) (st : Store) (fuel : ℕ) → AreValues (reverse t.results) results → Good c e (next (results ++ top.parts.below) st fuel)) (sym x.2) g in
       subst (λ o. Good c e (on_found o (λ (f : Function). on_found (split (reverse f.ty.params) vs) (λ (arguments : Split Value). after_call arguments.below next (function_answer m (invoke m frames) f arguments.top st fuel))))) (sym x.1)
       (subst (λ o. Good c e (on_found o (λ (arguments : Split Value). after_call arguments.below next (function_answer m (invoke m frames) f arguments.top st fuel)))) (sym arguments_is)
       (after_call_good c e (reverse f.ty.results) top.parts.below next (function_answer m (invoke m frames) f top.parts.top st fuel) g'

@@ -15,7 +15,7 @@ use Rattle.code_specs.specs.Stores.{Store}
 use Rattle.code_specs.specs.Signatures.{Signature, is_same_list, is_same_type, signature_of_type, type_of_function, signature_of}
 use Rattle.code_specs.specs.Instances.{table_of}
 use Rattle.code_specs.specs.Effects.{Effect, Continues, ReadsLocal, WritesLocal, Branches, Returns, Calls, Traps, Stuck, Computed, Meaning, typed, on_split, on_one, on_i32, results, after_meaning, plain_effect, meaning_of, branch_if, selection, checked_call, indirect_call, local_effect, effect_of}
-use Rattle.code_specs.specs.Typing.{Test, OperandType, OperandTypes, Stack, Popped, Context, ◌>>=◌, needs, known, may_be, below, below_all, popped, with_operand, with_operands, any_operands, through, never_behind, local_signature, condition_before, index_before, label_types, table_branch, common, select_type, aligned, instr_type}
+use Rattle.code_specs.specs.Typing.{Test, OperandType, OperandTypes, Stack, Popped, Context, ◌>>=◌, needs, known, may_be, below, below_all, top_operand, with_operand, with_operands, any_operands, through, never_behind, local_signature, condition_before, index_before, label_types, table_branch, common, select_type, aligned, instr_type}
 use Rattle.code_laws.specs.Answers.{IsValue, AreValues}
 use Rattle.code_laws.proofs.Tests.{passed, needed, known_is, some_is, ok_is, same_is, same_self, both}
 use Rattle.code_laws.proofs.Stacks.{is_of-value, value_is, Suits, Reached, One, below_is, Any, popped_is, Took, all_is, on_top, Passes, through_is, given}
@@ -203,9 +203,9 @@ call_indirect_good c known_table ty f s e vs there is h =
     (indirect_good c known_table ty k.v.bits (slice_get (table_of c.parts) k.v.bits) f e k.rest refl there (callable f y.it e k.rest rest_is k.reached))
 
 drop_good : (c : Context) (s e : OperandTypes) (vs : List Value) (st : Store)
-    → (popped s >>= λ p. Ok p.rest) ≡ Ok e → Reached s vs → GoodEffect c e (on_one vs (λ v below. Continues below st))
+    → (top_operand s >>= λ p. Ok p.rest) ≡ Ok e → Reached s vs → GoodEffect c e (on_one vs (λ v below. Continues below st))
 drop_good c s e vs st is h =
-    let x = passed (popped s) (λ p. Ok p.rest) e is in
+    let x = passed (top_operand s) (λ p. Ok p.rest) e is in
     let k = popped_is s x.it vs x.is h in
     subst (λ (l : List Value). GoodEffect c e (on_one l (λ v below. Continues below st))) (sym k.is)
     (subst (λ e. Reached e k.rest) (ok_is x.it.rest e x.then) k.reached)
@@ -236,9 +236,9 @@ select_good : (c : Context) (s e : OperandTypes) (vs : List Value) (st : Store)
 select_good c s e vs st is h =
     let x = passed (below I32 s) _ e is in
     let k = below_is I32 s x.it vs x.is h in
-    let y = passed (popped x.it) _ e x.then in
+    let y = passed (top_operand x.it) _ e x.then in
     let u = popped_is x.it y.it k.rest y.is k.reached in
-    let z = passed (popped y.it.rest) _ e y.then in
+    let z = passed (top_operand y.it.rest) _ e y.then in
     let l = popped_is y.it.rest z.it u.rest z.is u.reached in
     let w = passed (common y.it.ty z.it.ty) _ e z.then in
     let both_types = common_is u.ty l.ty w.it (subst (λ o. common (Some u.ty) o ≡ Ok w.it) l.known (subst (λ o. common o z.it.ty ≡ Ok w.it) u.known w.is)) in

@@ -196,7 +196,7 @@ bodies_typed m place (g ∷ fs) u is zero nf t at ty =
     let x = passed (func_verdict m place g (slice_get m.types g.ty)) (λ _. bodies_verdict m (place + 1) fs) u is in
     let same = some_is g nf at in
     let here : func_verdict m place nf (Some t) ≡ Ok x.it
-             = ap (func_verdict m place nf) (sym ty) ∙ ap (λ (g : NestedFunc). func_verdict m place g (slice_get m.types g.ty)) (sym same) ∙ x.is in
+    = ap (func_verdict m place nf) (sym ty) ∙ ap (λ (g : NestedFunc). func_verdict m place g (slice_get m.types g.ty)) (sym same) ∙ x.is in
     body_typed place (type_of_func m (typed_function nf t)) x.it here
 bodies_typed m place (g ∷ fs) u is (suc i) nf t at ty =
     let x = passed (func_verdict m place g (slice_get m.types g.ty)) (λ _. bodies_verdict m (place + 1) fs) u is in

@@ -253,11 +253,11 @@ sound call (IfOnly t inner rest) c ht gc held p s0 left le is l vs st f r n =
     let behind = sound call rest c ht gc held (y.it.closer + 1) (with_operands ts s) left k.room (ap (type_of c held (y.it.closer + 1) rest) k.is ∙ z.then) in
     let passed_by = subst (λ ts. GoodRun c (with_operands ts s) left.types (exec c.parts call held rest)) none behind in
     begin_good c left.types held s0 vs st f (λ f. choice vs
-        (λ vs. after_block ts vs (exec c.parts call held rest) (exec c.parts call (held + length vs) inner l [] st f))
-        (λ vs. exec c.parts call held rest l vs st f)) le r (λ f.
+    (λ vs. after_block ts vs (exec c.parts call held rest) (exec c.parts call (held + length vs) inner l [] st f))
+    (λ vs. exec c.parts call held rest l vs st f)) le r (λ f.
     choice_good c left.types s vs
-        (λ vs. after_block ts vs (exec c.parts call held rest) (exec c.parts call (held + length vs) inner l [] st f))
-        (λ vs. exec c.parts call held rest l vs st f) one
+    (λ vs. after_block ts vs (exec c.parts call held rest) (exec c.parts call (held + length vs) inner l [] st f))
+    (λ vs. exec c.parts call held rest l vs st f) one
     (λ vs r. after_good c y.it.types left.types ts s vs (exec c.parts call held rest) (exec c.parts call (held + length vs) inner l [] st f) v.it (at_passed y.it.closer (exact ts y.it.types) v.it v.is) r behind
     (inside c.parts call (with_label ts c) held s vs inner y.it.types r within_it l [] st f tt n))
     (λ vs r. passed_by l vs st f r n))
@@ -279,11 +279,11 @@ sound call (IfElse t first second rest) c ht gc held p s0 left le is l vs st f r
     let within_two = sound call second (with_label ts c) ht gc (held + height s) (y.it.closer + 1) no_operands y2.it o2.room (from_none x2.it o2.is (with_label ts c) (held + height s) (y.it.closer + 1) second y2.it y2.is) in
     let behind = sound call rest c ht gc held (y2.it.closer + 1) (with_operands ts s) left k.room (ap (type_of c held (y2.it.closer + 1) rest) k.is ∙ z.then) in
     begin_good c left.types held s0 vs st f (λ f. choice vs
-        (λ vs. after_block ts vs (exec c.parts call held rest) (exec c.parts call (held + length vs) first l [] st f))
-        (λ vs. after_block ts vs (exec c.parts call held rest) (exec c.parts call (held + length vs) second l [] st f))) le r (λ f.
+    (λ vs. after_block ts vs (exec c.parts call held rest) (exec c.parts call (held + length vs) first l [] st f))
+    (λ vs. after_block ts vs (exec c.parts call held rest) (exec c.parts call (held + length vs) second l [] st f))) le r (λ f.
     choice_good c left.types s vs
-        (λ vs. after_block ts vs (exec c.parts call held rest) (exec c.parts call (held + length vs) first l [] st f))
-        (λ vs. after_block ts vs (exec c.parts call held rest) (exec c.parts call (held + length vs) second l [] st f)) one
+    (λ vs. after_block ts vs (exec c.parts call held rest) (exec c.parts call (held + length vs) first l [] st f))
+    (λ vs. after_block ts vs (exec c.parts call held rest) (exec c.parts call (held + length vs) second l [] st f)) one
     (λ vs r. after_good c y.it.types left.types ts s vs (exec c.parts call held rest) (exec c.parts call (held + length vs) first l [] st f) v.it (at_passed y.it.closer (exact ts y.it.types) v.it v.is) r behind
     (inside c.parts call (with_label ts c) held s vs first y.it.types r within_one l [] st f tt n))
     (λ vs r. after_good c y2.it.types left.types ts s vs (exec c.parts call held rest) (exec c.parts call (held + length vs) second l [] st f) tt k.whole r behind

@@ -10,7 +10,7 @@ use Rattle.wasm_types.specs.Spellable.{width}
 use Rattle.code_specs.specs.declared.rule.Rule.TheVariants.{Operand}
 use Rattle.code_specs.specs.Values.{Value, Split, is_same, is_of, value, zero_of, with_top, split}
 use Rattle.code_specs.specs.Signatures.{Signature}
-use Rattle.code_specs.specs.Typing.{Test, OperandType, OperandTypes, Stack, Popped, ◌>>=◌, needs, may_be, below, below_all, popped, with_operand, with_operands, any_operands, is_empty, exact, height, through}
+use Rattle.code_specs.specs.Typing.{Test, OperandType, OperandTypes, Stack, Popped, ◌>>=◌, needs, may_be, below, below_all, top_operand, with_operand, with_operands, any_operands, is_empty, exact, height, through}
 use Rattle.code_laws.specs.Answers.{IsValue, AreValues}
 use Rattle.code_laws.proofs.Tests.{passed, needed, ok_is, same_is, same_self}
 
@@ -114,7 +114,7 @@ pub record Any (p : Popped) (vs : List Value) : Type 0 where
   pub has : IsValue ty v
   pub reached : Reached p.rest rest
 
-pub popped_is : (s : OperandTypes) (p : Popped) (vs : List Value) → popped s ≡ Ok p → Reached s vs → Any p vs
+pub popped_is : (s : OperandTypes) (p : Popped) (vs : List Value) → top_operand s ≡ Ok p → Reached s vs → Any p vs
 popped_is (Stack true []) p vs is h = absurd h
 popped_is (Stack false []) p vs is h = cc
 popped_is (Stack true (u ∷ ts)) p vs is h = absurd h

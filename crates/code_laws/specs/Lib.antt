@@ -2,3 +2,4 @@
 pub mod Codes
 pub mod Answers
 pub mod Fuel
+pub mod Bare

@@ -1,10 +1,12 @@
 //! What holds of typed code and of what code does, for all code: each law is the contract of a call that does nothing.
 #![tactic(auto)]
 
+mod one_instruction;
 mod sound_calls;
 mod spent_fuel;
 mod typed_code;
 
+pub use one_instruction::numbers_alone_are_enough;
 pub use sound_calls::{calls_return_values_of_their_types, valid_calls_are_never_stuck};
 pub use spent_fuel::{calls_that_end_use_the_same_fuel, fuel_never_rises, loops_begin_again};
 pub use typed_code::{

@@ -1,5 +1,5 @@
 -- What one instruction does (WebAssembly Core 1.0, sections 4.4.1 to 4.4.5). It is said once, for operands with their
--- types and for bare numbers; of a store nobody else needs to know what it is.
+-- types and for bare numbers. Nothing else looks into a store.
 use Rattle.std.specs.Prelude.{ℕ, ◌+◌, ◌*◌, ◌%◌, ◌^◌, ◌==◌, Bool, true, false, List, [], ◌∷◌, ◌++◌, Option, Some, None, Result, Ok, Err, negsuc, length, map, replicate, ok_or, nat_lt, nat_le, slice_get, slice_index, slice_index_or, slice_set, if◌then◌else◌}
 use Rattle.std.specs.List.{list_any}
 use Rattle.wasm_types.specs.declared.instr.ValType.{ValType}
@@ -78,7 +78,8 @@ grow_meaning m more s =
     then computed (pages s) (record s { bytes = s.bytes ++ replicate (more * page_size) 0 })
     else computed (unsigned 32 (negsuc 0)) s
 
--- what a plain instruction makes of its operands, the top first. Where it gives no operand the number is 0.
+-- What a plain instruction makes of its operands, the top first. Where it gives no operand the number is 0. What is left
+-- at the end is nop: no other instruction has other operands.
 unfoldable pub meaning_of : NestedModule → Instr → List ℕ → Store → Meaning
 meaning_of m (instr.I32Const z) numbers s = computed (unsigned 32 z) s
 meaning_of m (instr.I64Const z) numbers s = computed (unsigned 64 z) s
@@ -109,7 +110,12 @@ typed = record { split = split; number = bits_of; operand = value; is_alike = λ
 
 -- numbers alone: whoever knows that no value of a wrong type comes needs no more
 abbrev pub bare : Operands ℕ
-bare = record { split = λ ts ns. split_first (length ts) ns; number = λ n. n; operand = λ t n. n % 2 ^ width t; is_alike = λ m n. true }
+bare = record {
+  split = λ ts ns. split_first (length ts) ns;
+  number = λ n. n;
+  operand = λ t n. n % 2 ^ width t;
+  is_alike = λ m n. true;
+}
 
 abbrev pub on_split : {V : Type 0} → Option (Split V) → (List V → List V → Effect V) → Effect V
 on_split None go = Stuck
@@ -133,6 +139,7 @@ abbrev pub after_meaning : {V : Type 0} → Operands V → List ValType → List
 after_meaning o ts below (Ok c) = Continues (results o ts c.number ++ below) c.store
 after_meaning o ts below (Err kind) = Traps kind
 
+-- an instruction of this type
 abbrev pub plain_effect : {V : Type 0} → Operands V → NestedModule → Instr → Option Signature → List V → Store → Effect V
 plain_effect o m i None operands s = Stuck
 plain_effect o m i (Some g) operands s =
@@ -150,7 +157,8 @@ selection o condition other s = Stuck
 
 -- call_indirect (4.4.5): the function at an index of the table, if it has the type that is asked for
 abbrev pub checked_call : {V : Type 0} → ℕ → Option FuncType → Option FuncType → List V → Effect V
-checked_call index (Some asked) (Some has) below = if is_same_type asked has then Calls index below else Traps trap.Signature
+checked_call index (Some asked) (Some has) below =
+    if is_same_type asked has then Calls index below else Traps trap.Signature
 checked_call index asked has below = Stuck
 
 abbrev pub indirect_call : {V : Type 0} → NestedModule → ℕ → Option (Option ℕ) → List V → Effect V

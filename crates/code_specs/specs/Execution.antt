@@ -65,7 +65,8 @@ after_effect call next (effect.Continues operands store) locals s fuel = next lo
 after_effect call next (effect.ReadsLocal index operands) locals s fuel =
     on_found (slice_get locals index) (λ v. next locals (v ∷ operands) s fuel)
 after_effect call next (effect.WritesLocal index v operands) locals s fuel =
-    on_found (slice_get locals index) (λ old. if is_same old.ty v.ty then next (slice_set locals index v) operands s fuel else Over Stuck)
+    on_found (slice_get locals index) (λ old.
+    if is_same old.ty v.ty then next (slice_set locals index v) operands s fuel else Over Stuck)
 after_effect call next (effect.Branches label operands) locals s fuel = Branch label locals operands s fuel
 after_effect call next (effect.Returns operands) locals s fuel = Return operands s fuel
 after_effect call next (effect.Calls index operands) locals s fuel = call index operands s fuel (next locals)
@@ -157,7 +158,8 @@ body_answer m call f locals s fuel =
     answer_after (reverse f.ty.results) (exec m call (length locals) f.code locals [] s fuel)
 
 -- a function with its arguments, the last one first; the other locals begin with 0
-abbrev pub function_answer : NestedModule → Invoke → Function → (arguments : List Value) → Store → (fuel : ℕ) → Answer Value
+abbrev pub function_answer :
+    NestedModule → Invoke → Function → (arguments : List Value) → Store → (fuel : ℕ) → Answer Value
 function_answer m call f arguments s fuel = body_answer m call f (reverse arguments ++ map zero_of f.locals) s fuel
 
 -- the caller goes on with what is returned on top of its operands

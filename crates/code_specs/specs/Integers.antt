@@ -62,7 +62,7 @@ abbrev pub irem_s : (n i j : ℕ) → Result ℕ NumTrap
 irem_s n i zero = Err ZeroDivide
 irem_s n i (suc j) = Ok (unsigned n (int_rem (signed n i) (signed n (suc j))))
 
--- ---- bits
+-- ---- bits; k is j modulo N
 
 abbrev pub iand : (i j : ℕ) → ℕ
 iand i j = bit_and i j

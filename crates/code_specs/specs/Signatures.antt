@@ -48,7 +48,8 @@ typed_function f t = record { ty = t; locals = f.locals; code = f.code }
 
 -- a function of the module that has a type
 abbrev pub function_at : NestedModule → ℕ → Option Function
-function_at m index = option_and_then (λ f. option_map (typed_function f) (slice_get m.types f.ty)) (slice_get m.funcs index)
+function_at m index =
+    option_and_then (λ f. option_map (typed_function f) (slice_get m.types f.ty)) (slice_get m.funcs index)
 
 abbrev pub type_of_function : NestedModule → ℕ → Option FuncType
 type_of_function m index = option_map (λ f. f.ty) (function_at m index)
@@ -56,11 +57,11 @@ type_of_function m index = option_map (λ f. f.ty) (function_at m index)
 -- ---- instructions that need neither locals nor labels nor functions
 
 -- as the table of opcodes says it
-abbrev pub listed : Types → Signature
-listed t = record { takes = reverse (operands_of t.takes); gives = types_of t.gives }
+abbrev pub table_signature : Types → Signature
+table_signature t = record { takes = reverse (operands_of t.takes); gives = types_of t.gives }
 
 unfoldable pub opcode_signature : ℕ → Option Signature
-opcode_signature op = option_map listed (row op).types
+opcode_signature op = option_map table_signature (row op).types
 
 -- how many bytes a load or store has
 abbrev pub bytes_of_group : Group → ℕ

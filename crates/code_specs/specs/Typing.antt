@@ -86,10 +86,10 @@ pub record Popped : Type 0 where
   pub ty : OperandType
   pub rest : OperandTypes
 
-abbrev pub popped : OperandTypes → Test Popped
-popped (Stack polymorphic (u ∷ types)) = Ok (record { ty = u; rest = Stack polymorphic types })
-popped (Stack true []) = Ok (record { ty = None; rest = any_operands })
-popped (Stack false []) = Err Operand
+abbrev pub top_operand : OperandTypes → Test Popped
+top_operand (Stack polymorphic (u ∷ types)) = Ok (record { ty = u; rest = Stack polymorphic types })
+top_operand (Stack true []) = Ok (record { ty = None; rest = any_operands })
+top_operand (Stack false []) = Err Operand
 
 -- with an operand on top
 abbrev pub with_operand : OperandType → OperandTypes → OperandTypes
@@ -153,7 +153,7 @@ common (Some t) u = needs (may_be t u) Operand >>= λ _. Ok (Some t)
 -- select (3.3.2): [t t i32] -> [t]
 abbrev pub select_type : OperandTypes → Test OperandTypes
 select_type s =
-    below I32 s >>= λ s. popped s >>= λ upper. popped upper.rest >>= λ lower.
+    below I32 s >>= λ s. top_operand s >>= λ upper. top_operand upper.rest >>= λ lower.
     common upper.ty lower.ty >>= λ t. Ok (with_operand t lower.rest)
 
 -- the alignment of a load or store isn't over its width (3.3.4)
@@ -172,7 +172,7 @@ instr_type c (Call index) s = known (type_of_function c.parts index) >>= λ f. t
 instr_type c (CallIndirect ty) s =
     known (slice_get c.parts.tables 0) >>= λ _. known (slice_get c.parts.types ty) >>= λ f.
     through (index_before (signature_of_type f)) s
-instr_type c Drop s = popped s >>= λ p. Ok p.rest
+instr_type c Drop s = top_operand s >>= λ p. Ok p.rest
 instr_type c Select s = select_type s
 instr_type c (Local op index) s = known (slice_get c.locals index) >>= λ t. through (local_signature op t) s
 instr_type c i s = known (signature_of c.parts i) >>= λ g. aligned i >>= λ _. through g s

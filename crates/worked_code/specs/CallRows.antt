@@ -14,7 +14,6 @@ use Rattle.code_specs.specs.Instances.{table_of}
 use Rattle.code_specs.specs.Execution.{Answer, Returned, Trapped, Spent, Stuck, invoke, answer_of}
 use Rattle.worked_code.specs.Sample.{i32, i64, code, const32, const64, get, add32, func, sample, opening}
 
-
 -- Function 0 is () -> () and function 1 is () -> i32; these two are in the table, at 1 and 2. Function 2 is i32 i64 ->
 -- i64: the sum of its arguments, and of a local that begins with 0. Function 3 is () -> i32 and calls itself. Function 4
 -- is i32 -> i32 and calls the function of the table at its argument, with the type () -> i32. Function 5 is () -> i32:
