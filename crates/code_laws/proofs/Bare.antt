@@ -132,7 +132,7 @@ indirect_shows m ty (Some (Some index)) below = checked_shows index (slice_get m
 
 local_shows : (get set : Bool) (index : ℕ) (vs : List Value)
     → Shows (cond get (ReadsLocal index vs) (cond set (on_one vs (λ v below. WritesLocal index v below)) (on_one vs (λ v below. WritesLocal index v vs))))
-      (cond get (ReadsLocal index (all_bits vs)) (cond set (on_one (all_bits vs) (λ v below. WritesLocal index v below)) (on_one (all_bits vs) (λ v below. WritesLocal index v (all_bits vs)))))
+    (cond get (ReadsLocal index (all_bits vs)) (cond set (on_one (all_bits vs) (λ v below. WritesLocal index v below)) (on_one (all_bits vs) (λ v below. WritesLocal index v (all_bits vs)))))
 local_shows true set index vs = refl
 local_shows false true index vs = one_shows vs (λ v below. WritesLocal index v below) (λ v below. WritesLocal index v below) (λ v below. refl)
 local_shows false false index vs = one_shows vs (λ v below. WritesLocal index v vs) (λ v below. WritesLocal index v (all_bits vs)) (λ v below. refl)

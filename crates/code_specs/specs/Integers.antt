@@ -1,6 +1,6 @@
 -- Integer operations (WebAssembly Core 1.0, sections 4.3.2 and 4.3.4), under the standard's names. An iN is a number
 -- below 2^N; N comes first, where an operation depends on it.
-use Rattle.std.specs.Prelude.{◌≡◌, ℕ, zero, suc, ◌+◌, ◌-◌, ◌*◌, ◌/◌, ◌%◌, ◌^◌, ◌==◌, Bool, true, false, not, List, [], ◌∷◌, ◌++◌, Result, Ok, Err, ℤ, pos, negsuc, neg_ℤ, int_lt, int_le, int_div, int_rem, nat_lt, nat_le, bit_and, bit_or, bit_xor, count_by, length, replicate, take, drop, if◌then◌else◌, refl}
+use Rattle.std.specs.Prelude.{ℕ, zero, suc, ◌+◌, ◌-◌, ◌*◌, ◌/◌, ◌%◌, ◌^◌, ◌==◌, Bool, true, false, not, List, [], ◌∷◌, ◌++◌, Result, Ok, Err, ℤ, pos, negsuc, neg_ℤ, int_lt, int_le, int_div, int_rem, nat_lt, nat_le, bit_and, bit_or, bit_xor, count_by, length, replicate, take, drop, if◌then◌else◌}
 use Rattle.std.specs.List.{prefix_len, suffix_len}
 use Rattle.code_specs.specs.declared.trap.NumTrap.{NumTrap}
 use Rattle.code_specs.specs.declared.trap.NumTrap.TheVariants.{ZeroDivide, Overflow}

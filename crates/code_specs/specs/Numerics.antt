@@ -1,6 +1,6 @@
 -- Which operator a numeric instruction has (WebAssembly Core 1.0, sections 2.4.1 and 5.4.5), by its opcode. An operand
 -- of type i32 is held in the low 32 bits of a number.
-use Rattle.std.specs.Prelude.{ℕ, ◌-◌, ◌%◌, ◌^◌, ◌==◌, List, [], ◌∷◌, Option, Some, None, Result, Ok, Err, nat_lt, slice_get, if◌then◌else◌}
+use Rattle.std.specs.Prelude.{ℕ, ◌-◌, ◌%◌, ◌^◌, ◌==◌, List, [], ◌∷◌, Option, Some, None, Result, Ok, nat_lt, slice_get, if◌then◌else◌}
 use Rattle.code_specs.specs.declared.trap.NumTrap.{NumTrap}
 use Rattle.code_specs.specs.Integers.{iadd, isub, imul, idiv_u, idiv_s, irem_u, irem_s, iand, ior, ixor, ishl, ishr_u, ishr_s, irotl, irotr, iclz, ictz, ipopcnt, ieqz, ieq, ine, ilt_u, ilt_s, igt_u, igt_s, ile_u, ile_s, ige_u, ige_s, extend_u, extend_s, wrap}
 

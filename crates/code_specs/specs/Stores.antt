@@ -1,6 +1,6 @@
 -- What a module's code works on, beside its operands and locals: its memory and its globals (WebAssembly Core 1.0,
 -- sections 4.2.8 and 4.2.9). The table never changes, so the module alone says what it holds.
-use Rattle.std.specs.Prelude.{ℕ, zero, suc, ◌+◌, ◌*◌, ◌/◌, ◌%◌, min, Bool, List, [], ◌∷◌, ◌++◌, Option, Some, None, length, take, drop, nat_le, slice_get, slice_range, if◌then◌else◌}
+use Rattle.std.specs.Prelude.{ℕ, zero, suc, ◌+◌, ◌*◌, ◌/◌, ◌%◌, min, List, [], ◌∷◌, ◌++◌, Option, Some, None, length, take, drop, nat_le, slice_get, slice_range, if◌then◌else◌}
 use Rattle.wasm_types.specs.declared.module.Limits.{Limits}
 use Rattle.wasm_types.specs.Modules.{NestedModule}
 use Rattle.module_specs.specs.ModuleSpelling.{most_pages}

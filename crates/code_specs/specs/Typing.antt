@@ -1,6 +1,6 @@
 -- Which code is valid, and the first rule that fails (WebAssembly Core 1.0, section 3.3), together. Types of operands
 -- stand with the topmost first.
-use Rattle.std.specs.Prelude.{ℕ, ◌+◌, ◌^◌, Bool, true, false, List, [], ◌∷◌, ◌++◌, Option, Some, None, Result, Ok, Err, option_map, option_and_then, length, ok_or, reverse, nat_lt, nat_le, slice_get, if◌then◌else◌, ◌==◌}
+use Rattle.std.specs.Prelude.{ℕ, ◌+◌, ◌^◌, Bool, true, false, List, [], ◌∷◌, ◌++◌, Option, Some, None, Result, Ok, Err, length, ok_or, reverse, nat_le, slice_get, if◌then◌else◌, ◌==◌}
 use Rattle.std.specs.List.{list_all}
 use Rattle.wasm_types.specs.declared.instr.ValType.{ValType}
 use Rattle.wasm_types.specs.declared.instr.ValType.TheVariants.{I32}
