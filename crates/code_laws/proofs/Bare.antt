@@ -1,6 +1,6 @@
 -- What an instruction does over bare numbers is what it does over values.
-use Rattle.std.proofs.Common.{◌≡◌, ℕ, zero, suc, List, [], ◌∷◌, ◌++◌, length, Option, Some, None, refl, sym, ap, ◌∙◌, subst, Bool, true, false}
-use Rattle.std.specs.Prelude.{Result, Ok, Err, cond, map, slice_get, slice_index_or, ◌==◌, ◌%◌, ◌^◌}
+use Rattle.std.proofs.Common.{◌≡◌, ℕ, List, [], ◌∷◌, ◌++◌, length, Option, Some, None, refl, sym, ap, ◌∙◌, subst, Bool, true, false}
+use Rattle.std.specs.Prelude.{Ok, Err, cond, map, slice_get, slice_index_or, ◌==◌, ◌%◌, ◌^◌}
 use Rattle.wasm_types.specs.declared.instr.ValType.{ValType}
 use Rattle.wasm_types.specs.declared.instr.ValType.TheVariants.{I32}
 use Rattle.wasm_types.specs.declared.instr.Instr.{Instr}
@@ -13,7 +13,7 @@ use Rattle.code_specs.specs.Values.{Value, Split, is_same, is_of, bits_of, all_b
 use Rattle.code_specs.specs.Stores.{Store}
 use Rattle.code_specs.specs.Signatures.{Signature, is_same_type, type_of_function, signature_of}
 use Rattle.code_specs.specs.Instances.{table_of}
-use Rattle.code_specs.specs.Effects.{Effect, Continues, ReadsLocal, WritesLocal, Branches, Returns, Calls, Traps, Stuck, Meaning, typed, bare, on_split, on_one, on_i32, results, after_meaning, plain_effect, meaning_of, branch_if, selection, checked_call, indirect_call, local_effect, effect_of}
+use Rattle.code_specs.specs.Effects.{Effect, Continues, ReadsLocal, WritesLocal, Branches, Returns, Calls, Traps, Stuck, Meaning, typed, bare, on_split, on_one, on_i32, results, after_meaning, plain_effect, meaning_of, branch_if, selection, checked_call, indirect_call, effect_of}
 use Rattle.code_laws.specs.Bare.{bits_of_effect}
 
 -- the effect over bare numbers is that over values, if that isn't stuck

@@ -1,21 +1,20 @@
 -- Calls of a valid module are never stuck, and return values of their types.
-use Rattle.std.proofs.Common.{◌≡◌, ℕ, zero, suc, ◌+◌, ◌≤◌, List, [], ◌∷◌, ◌++◌, length, Option, Some, None, refl, sym, ap, ◌∙◌, subst, Bool, true, false, arith}
-use Rattle.std.specs.Prelude.{Result, Ok, Err, cond, map, reverse, slice_get, option_map, ◌-◌}
-use Rattle.std.proofs.lemmas.List.{length-reverse, length-append, reverse-reverse, append-nil}
+use Rattle.std.proofs.Common.{◌≡◌, ℕ, zero, suc, ◌+◌, ◌≤◌, List, [], ◌∷◌, ◌++◌, length, Option, Some, None, refl, sym, ap, ◌∙◌, subst, Bool, arith}
+use Rattle.std.specs.Prelude.{Ok, cond, map, reverse, slice_get, option_map, ◌-◌}
+use Rattle.std.proofs.lemmas.List.{reverse-reverse}
 use Rattle.wasm_types.specs.declared.instr.ValType.{ValType}
 use Rattle.wasm_types.specs.declared.module.FuncType.{FuncType}
-use Rattle.wasm_types.specs.Spellable.{width}
 use Rattle.wasm_types.specs.Modules.{NestedModule}
-use Rattle.code_specs.specs.Values.{Value, Split, is_of, with_top, zero_of, split, most_slots}
+use Rattle.code_specs.specs.Values.{Value, Split, with_top, zero_of, split, most_slots}
 use Rattle.code_specs.specs.Stores.{Store}
 use Rattle.code_specs.specs.Signatures.{Function, function_at, type_of_function}
-use Rattle.code_specs.specs.Execution.{Answer, Returned, Trapped, Spent, Stuck, Outcome, Next, Branch, Return, Over, Invoke, Continuation, most_frames, on_found, exec, answer_with, answer_after, body_answer, function_answer, after_call, invoke, arguments_of, answer_of_function, answer_of}
-use Rattle.code_specs.specs.Typing.{OperandTypes, Left, Context, ◌>>=◌, at, height, no_operands, with_operands, exact, closing, with_room, type_of, context_of, type_of_body, type_of_func}
+use Rattle.code_specs.specs.Execution.{Answer, Returned, Trapped, Spent, Stuck, Outcome, Next, Branch, Return, Over, Invoke, Continuation, most_frames, on_found, exec, answer_with, answer_after, function_answer, after_call, invoke, arguments_of, answer_of_function, answer_of}
+use Rattle.code_specs.specs.Typing.{OperandTypes, Left, Context, at, no_operands, with_operands, exact, closing, with_room, type_of, context_of, type_of_func}
 use Rattle.code_specs.specs.Validity.{IsValid}
 use Rattle.code_laws.specs.Codes.{HasItsLabels}
-use Rattle.code_laws.specs.Answers.{IsValue, AreValues, Fit, AnswersWith}
+use Rattle.code_laws.specs.Answers.{AreValues, Fit, AnswersWith}
 use Rattle.code_laws.proofs.Tests.{passed, at_passed, some_is, room_is}
-use Rattle.code_laws.proofs.Stacks.{is_of-value, zeros_are, are_length, are_append, are_reverse, Reached, exact_is}
+use Rattle.code_laws.proofs.Stacks.{is_of-value, zeros_are, are_length, are_append, are_reverse, exact_is}
 use Rattle.code_laws.proofs.Effected.{Top, HasTable}
 use Rattle.code_laws.proofs.Labels.{code_labels}
 use Rattle.code_laws.proofs.Runs.{Good, GoodCalls, sound}

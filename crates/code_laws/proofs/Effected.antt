@@ -1,24 +1,24 @@
 -- A typed instruction finds what it asks for.
-use Rattle.std.proofs.Common.{◌≡◌, ℕ, zero, suc, ◌+◌, ◌<◌, ◌≤◌, List, [], ◌∷◌, ◌++◌, length, Option, Some, None, refl, sym, ap, ◌∙◌, subst, Bool, true, false, arith}
-use Rattle.std.specs.Prelude.{Result, Ok, Err, cond, map, reverse, slice_get, slice_index_or, ◌==◌, ◌&&◌}
+use Rattle.std.proofs.Common.{◌≡◌, ℕ, zero, suc, List, [], ◌∷◌, ◌++◌, Option, Some, None, refl, sym, ap, ◌∙◌, subst, Bool, true, false}
+use Rattle.std.specs.Prelude.{Ok, Err, cond, reverse, slice_get, slice_index_or, ◌==◌}
 use Rattle.std.specs.List.{list_all}
 use Rattle.wasm_types.specs.declared.instr.ValType.{ValType}
-use Rattle.wasm_types.specs.declared.instr.ValType.TheVariants.{I32, I64}
+use Rattle.wasm_types.specs.declared.instr.ValType.TheVariants.{I32}
 use Rattle.wasm_types.specs.declared.instr.Instr.{Instr}
 use Rattle.wasm_types.specs.declared.instr.Instr.TheVariants.{Unreachable, Br, BrIf, BrTable, Return, Call, CallIndirect, Drop, Select, Local}
 use Rattle.wasm_types.specs.declared.module.FuncType.{FuncType}
 use Rattle.wasm_types.specs.Modules.{NestedModule}
 use Rattle.code_specs.specs.declared.rule.Rule.TheVariants.{Operand}
 use Rattle.code_specs.specs.declared.trap.TrapKind.TheVariants as trap
-use Rattle.code_specs.specs.Values.{Value, Split, is_same, is_of, value, split}
+use Rattle.code_specs.specs.Values.{Value, Split, is_same, split}
 use Rattle.code_specs.specs.Stores.{Store}
 use Rattle.code_specs.specs.Signatures.{Signature, is_same_list, is_same_type, signature_of_type, type_of_function, signature_of}
 use Rattle.code_specs.specs.Instances.{table_of}
-use Rattle.code_specs.specs.Effects.{Effect, Continues, ReadsLocal, WritesLocal, Branches, Returns, Calls, Traps, Stuck, Computed, Meaning, typed, on_split, on_one, on_i32, results, after_meaning, plain_effect, meaning_of, branch_if, selection, checked_call, indirect_call, local_effect, effect_of}
-use Rattle.code_specs.specs.Typing.{Test, OperandType, OperandTypes, Stack, Popped, Context, ◌>>=◌, needs, known, may_be, below, below_all, top_operand, with_operand, with_operands, any_operands, through, never_behind, local_signature, condition_before, index_before, label_types, table_branch, common, select_type, aligned, instr_type}
+use Rattle.code_specs.specs.Effects.{Effect, Continues, ReadsLocal, WritesLocal, Branches, Returns, Calls, Traps, Stuck, Meaning, typed, on_split, on_one, on_i32, results, after_meaning, plain_effect, meaning_of, branch_if, selection, checked_call, indirect_call, effect_of}
+use Rattle.code_specs.specs.Typing.{OperandType, OperandTypes, Context, ◌>>=◌, needs, known, may_be, below, below_all, top_operand, with_operand, with_operands, any_operands, through, never_behind, local_signature, condition_before, index_before, label_types, table_branch, common, select_type, aligned, instr_type}
 use Rattle.code_laws.specs.Answers.{IsValue, AreValues}
-use Rattle.code_laws.proofs.Tests.{passed, needed, known_is, some_is, ok_is, same_is, same_self, both}
-use Rattle.code_laws.proofs.Stacks.{is_of-value, value_is, Suits, Reached, One, below_is, Any, popped_is, Took, all_is, on_top, Passes, through_is, given}
+use Rattle.code_laws.proofs.Tests.{passed, needed, known_is, ok_is, same_is, same_self, both}
+use Rattle.code_laws.proofs.Stacks.{is_of-value, value_is, Reached, One, below_is, popped_is, Took, all_is, on_top, Passes, through_is, given}
 
 -- values of these types are on top
 pub record Top (ts : List ValType) (vs : List Value) : Type 0 where

@@ -1,6 +1,6 @@
 -- What a valid module has: functions with types, a table of such functions, and typed bodies.
-use Rattle.std.proofs.Common.{◌≡◌, ℕ, zero, suc, ◌+◌, ◌<◌, ◌≤◌, List, [], ◌∷◌, ◌++◌, length, Option, Some, None, refl, sym, ap, ◌∙◌, subst, Bool, true, false, arith}
-use Rattle.std.specs.Prelude.{Result, Ok, Err, cond, map, take, drop, replicate, nat_lt, slice_get, option_map, option_and_then, is_some, ◌&&◌}
+use Rattle.std.proofs.Common.{◌≡◌, ℕ, zero, suc, ◌+◌, ◌<◌, List, [], ◌∷◌, ◌++◌, length, Option, Some, None, refl, sym, ap, ◌∙◌, subst, Bool, true, false, arith}
+use Rattle.std.specs.Prelude.{Ok, Err, cond, map, take, drop, replicate, nat_lt, slice_get, option_map, option_and_then, is_some, ◌&&◌}
 use Rattle.std.specs.List.{list_all}
 use Rattle.std.proofs.lemmas.Bool.{ltb-true}
 use Rattle.wasm_types.specs.declared.instr.ValType.TheVariants.{I32}
@@ -13,9 +13,9 @@ use Rattle.code_specs.specs.Values.{is_same}
 use Rattle.code_specs.specs.Stores.{replaced_at}
 use Rattle.code_specs.specs.Signatures.{Function, typed_function, function_at, type_of_function}
 use Rattle.code_specs.specs.Instances.{first_failing, with_elements, table_size, table_of}
-use Rattle.code_specs.specs.Typing.{Found, OperandTypes, ◌>>=◌, type_of_func}
-use Rattle.code_specs.specs.Validity.{Invalid, Verdict, fails_at, each, has_one_result, has_type, is_ordered, is_memory_type, failing_limits, is_initialized, failing_export, failing_start, is_element, is_data, body_verdict, func_verdict, bodies_verdict, validity, IsValid}
-use Rattle.code_laws.proofs.Tests.{passed, both, some_is, ok_is}
+use Rattle.code_specs.specs.Typing.{Found, OperandTypes, type_of_func}
+use Rattle.code_specs.specs.Validity.{fails_at, each, has_one_result, has_type, is_ordered, is_memory_type, failing_limits, is_initialized, failing_export, failing_start, is_element, is_data, body_verdict, func_verdict, bodies_verdict, validity, IsValid}
+use Rattle.code_laws.proofs.Tests.{passed, both, some_is}
 use Rattle.code_laws.proofs.Effected.{HasTable}
 
 -- ---- rules that hold of each item

@@ -1,23 +1,23 @@
 -- Typed lists of instructions are never stuck, and leave what their type says.
-use Rattle.std.proofs.Common.{◌≡◌, ℕ, zero, suc, ◌+◌, ◌<◌, ◌≤◌, List, [], ◌∷◌, ◌++◌, length, Option, Some, None, refl, sym, ap, ◌∙◌, subst, Bool, true, false, arith}
-use Rattle.std.specs.Prelude.{Result, Ok, Err, cond, reverse, nat_lt, slice_get, slice_set, ◌==◌}
+use Rattle.std.proofs.Common.{◌≡◌, ℕ, zero, suc, ◌+◌, ◌≤◌, List, [], ◌∷◌, ◌++◌, length, Some, refl, sym, ap, ◌∙◌, subst, Bool, true, false}
+use Rattle.std.specs.Prelude.{Ok, cond, reverse, slice_get, slice_set, ◌==◌}
 use Rattle.std.proofs.lemmas.Bool.{le-ltb}
 use Rattle.wasm_types.specs.declared.instr.ValType.{ValType}
 use Rattle.wasm_types.specs.declared.instr.ValType.TheVariants.{I32}
 use Rattle.wasm_types.specs.declared.module.FuncType.{FuncType}
 use Rattle.wasm_types.specs.Nested.{Code, Nil, Leaf, InBlock, InLoop, IfOnly, IfElse}
 use Rattle.wasm_types.specs.Modules.{NestedModule}
-use Rattle.code_specs.specs.Values.{Value, Split, is_same, split, most_slots}
+use Rattle.code_specs.specs.Values.{Value, Split, is_same, most_slots}
 use Rattle.code_specs.specs.Stores.{Store}
 use Rattle.code_specs.specs.Signatures.{types_of, type_of_function}
 use Rattle.code_specs.specs.Effects.{Effect, Continues, ReadsLocal, WritesLocal, Branches, Returns, Calls, Traps, typed, effect_of}
 use Rattle.code_specs.specs.Effects as effect
-use Rattle.code_specs.specs.Execution.{Answer, Returned, Trapped, Spent, Stuck, Outcome, Next, Branch, Return, Over, Run, Continuation, Invoke, on_found, paying, within, after_effect, after_block, after_iteration, iterations, loop_outcome, choice, exec}
-use Rattle.code_specs.specs.Typing.{Test, OperandTypes, Stack, Left, Context, ◌>>=◌, at, height, below, with_operands, no_operands, instr_type, with_room, opening, exact, closing, with_label, type_of}
+use Rattle.code_specs.specs.Execution.{Returned, Trapped, Spent, Stuck, Outcome, Next, Branch, Return, Over, Run, Continuation, Invoke, on_found, paying, within, after_effect, after_block, after_iteration, iterations, loop_outcome, choice, exec}
+use Rattle.code_specs.specs.Typing.{OperandTypes, Left, Context, ◌>>=◌, at, height, below, with_operands, no_operands, instr_type, with_room, opening, exact, closing, with_label, type_of}
 use Rattle.code_laws.specs.Answers.{IsValue, AreValues}
 use Rattle.code_laws.proofs.Tests.{passed, at_passed, some_is, ok_is, same_self, room_is}
 use Rattle.code_laws.proofs.Stacks.{Reached, reached_length, One, below_is, on_top, exact_is}
-use Rattle.code_laws.proofs.Effected.{Top, Callable, GoodEffect, HasTable, instr_good, split_i32}
+use Rattle.code_laws.proofs.Effected.{Top, GoodEffect, HasTable, instr_good, split_i32}
 
 -- what an outcome of typed code may be: at the end the types that are left, at a branch those of its label
 abbrev pub Good : Context → OperandTypes → Outcome → Type 0

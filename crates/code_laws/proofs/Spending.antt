@@ -1,5 +1,5 @@
 -- Fuel never rises, and a loop has enough iterations.
-use Rattle.std.proofs.Common.{◌≡◌, ℕ, zero, suc, ◌+◌, ◌<◌, ◌≤◌, List, [], ◌∷◌, ◌++◌, length, Option, Some, None, refl, sym, ap, ◌∙◌, subst, Bool, true, false, arith}
+use Rattle.std.proofs.Common.{◌≡◌, ℕ, zero, suc, ◌+◌, ◌<◌, ◌≤◌, List, [], ◌∷◌, ◌++◌, length, Option, Some, None, refl, Bool, true, false, arith}
 use Rattle.std.specs.Prelude.{cond, map, reverse, nat_lt, slice_get, slice_set, ◌-◌, ◌==◌}
 use Rattle.wasm_types.specs.declared.instr.ValType.{ValType}
 use Rattle.wasm_types.specs.declared.instr.ValType.TheVariants.{I32}
@@ -10,7 +10,7 @@ use Rattle.code_specs.specs.Stores.{Store}
 use Rattle.code_specs.specs.Signatures.{Function, function_at, types_of}
 use Rattle.code_specs.specs.Effects.{Effect, Continues, ReadsLocal, WritesLocal, Branches, Returns, Calls, Traps, typed, effect_of}
 use Rattle.code_specs.specs.Effects as effect
-use Rattle.code_specs.specs.Execution.{Answer, Returned, Trapped, Spent, Stuck, Outcome, Next, Branch, Return, Over, Run, Continuation, Invoke, most_frames, on_found, paying, within, after_effect, after_block, after_iteration, iterations, loop_outcome, choice, exec, answer_with, answer_after, body_answer, function_answer, after_call, invoke, arguments_of, answer_of_function, answer_of, fuel_left}
+use Rattle.code_specs.specs.Execution.{Answer, Returned, Trapped, Spent, Stuck, Outcome, Next, Branch, Return, Over, Run, Continuation, Invoke, most_frames, on_found, paying, within, after_effect, after_block, after_iteration, iterations, loop_outcome, choice, exec, answer_with, answer_after, function_answer, after_call, invoke, arguments_of, answer_of_function, answer_of, fuel_left}
 
 -- an outcome with at most n units left, and below n at a branch
 abbrev pub Within : ℕ → Outcome → Type 0

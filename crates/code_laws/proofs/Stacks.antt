@@ -1,6 +1,6 @@
 -- Types of operands, and operands of these types.
-use Rattle.std.proofs.Common.{◌≡◌, ℕ, zero, suc, ◌+◌, ◌<◌, ◌≤◌, List, [], ◌∷◌, ◌++◌, length, Option, Some, None, refl, sym, ap, ◌∙◌, subst, Bool, true, false, arith}
-use Rattle.std.specs.Prelude.{Result, Ok, Err, cond, map, reverse, nat_lt, ◌&&◌, ◌%◌, ◌^◌}
+use Rattle.std.proofs.Common.{◌≡◌, ℕ, suc, ◌<◌, List, [], ◌∷◌, ◌++◌, length, Some, None, refl, sym, ap, ◌∙◌, subst, Bool, true, false, arith}
+use Rattle.std.specs.Prelude.{Ok, cond, map, reverse, nat_lt, ◌&&◌, ◌^◌}
 use Rattle.std.proofs.lemmas.Bool.{lt-ltb}
 use Rattle.std.proofs.lemmas.Nat.{mod_below}
 use Rattle.std.proofs.lemmas.List.{append-nil, reverse-append}
@@ -10,7 +10,7 @@ use Rattle.wasm_types.specs.Spellable.{width}
 use Rattle.code_specs.specs.declared.rule.Rule.TheVariants.{Operand}
 use Rattle.code_specs.specs.Values.{Value, Split, is_same, is_of, value, zero_of, with_top, split}
 use Rattle.code_specs.specs.Signatures.{Signature}
-use Rattle.code_specs.specs.Typing.{Test, OperandType, OperandTypes, Stack, Popped, ◌>>=◌, needs, may_be, below, below_all, top_operand, with_operand, with_operands, any_operands, is_empty, exact, height, through}
+use Rattle.code_specs.specs.Typing.{OperandType, OperandTypes, Stack, Popped, needs, may_be, below, below_all, top_operand, with_operand, with_operands, is_empty, exact, height, through}
 use Rattle.code_laws.specs.Answers.{IsValue, AreValues}
 use Rattle.code_laws.proofs.Tests.{passed, needed, ok_is, same_is, same_self}
 

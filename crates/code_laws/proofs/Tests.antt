@@ -1,13 +1,13 @@
 -- What a test that passes says.
-use Rattle.std.proofs.Common.{◌≡◌, ◌≢◌, ℕ, zero, suc, ◌+◌, ◌≤◌, List, [], ◌∷◌, Option, Some, None, refl, sym, ap, ◌∙◌, subst, Bool, true, false}
-use Rattle.std.specs.Prelude.{Result, Ok, Err, nat_lt, nat_le, ok_or, ◌&&◌}
-use Rattle.std.proofs.lemmas.Bool.{leb-true, le-ltb}
+use Rattle.std.proofs.Common.{◌≡◌, ℕ, ◌+◌, ◌≤◌, Option, Some, None, refl, Bool, true, false}
+use Rattle.std.specs.Prelude.{Result, Ok, Err, nat_le, ◌&&◌}
+use Rattle.std.proofs.lemmas.Bool.{leb-true}
 use Rattle.wasm_types.specs.declared.instr.ValType.{ValType}
 use Rattle.wasm_types.specs.declared.instr.ValType.TheVariants.{I32, I64}
 use Rattle.code_specs.specs.declared.rule.Rule.{Rule}
 use Rattle.code_specs.specs.declared.rule.Rule.TheVariants.{Slots}
 use Rattle.code_specs.specs.Values.{is_same, most_slots}
-use Rattle.code_specs.specs.Typing.{Test, Failing, OperandTypes, ◌>>=◌, at, needs, known, height, with_room}
+use Rattle.code_specs.specs.Typing.{Test, OperandTypes, ◌>>=◌, at, needs, known, height, with_room}
 
 -- something, and what comes of it
 pub record Passed {A B E : Type 0} (o : Result A E) (f : A → Result B E) (y : B) : Type 0 where

@@ -7,7 +7,9 @@ mod spent_fuel;
 mod typed_code;
 
 pub use one_instruction::numbers_alone_are_enough;
-pub use sound_calls::{calls_return_values_of_their_types, valid_calls_are_never_stuck};
+pub use sound_calls::{
+    calls_return_values_of_their_types, globals_stay_in_range, valid_calls_are_never_stuck,
+};
 pub use spent_fuel::{calls_that_end_use_the_same_fuel, fuel_never_rises, loops_begin_again};
 pub use typed_code::{
     branches_lead_to_labels_that_are_there, typed_bodies_leave_exactly_their_results,

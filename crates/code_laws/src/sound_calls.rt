@@ -6,6 +6,7 @@ ghost use Rattle.code_specs.specs.Signatures.{Function, function_at};
 ghost use Rattle.code_specs.specs.Execution.{Stuck, answer_of};
 ghost use Rattle.code_specs.specs.Validity.{IsValid};
 ghost use Rattle.code_laws.specs.Answers.{Fit, AnswersWith};
+ghost use Rattle.code_laws.specs.Globals.{GlobalsFit, LeavesGlobals};
 
 /// A call of a valid module's function, on arguments that fit it, never meets an operand that is missing or of another
 /// type, nor a local, label or function that isn't there, and no frame of it takes more than 4,096 slots. This holds in
@@ -21,4 +22,11 @@ pub fn calls_return_values_of_their_types()
     ensures { (m : NestedModule) → IsValid m → (index : ℕ) (f : Function) (arguments : List ℕ) (s : Store) (fuel : ℕ)
         → function_at m index ≡ Some f → Fit f.ty.params arguments
         → AnswersWith (reverse f.ty.results) (answer_of m index arguments s fuel) }
+{}
+
+/// Where the store has a number for each global of the module, in the range of its type, it has so when a call is over,
+/// however the call ends. This holds of modules that aren't valid, too.
+pub fn globals_stay_in_range()
+    ensures { (m : NestedModule) (index : ℕ) (arguments : List ℕ) (s : Store) (fuel : ℕ)
+        → GlobalsFit m s → LeavesGlobals m (answer_of m index arguments s fuel) }
 {}
