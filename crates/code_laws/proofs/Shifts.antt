@@ -1,5 +1,5 @@
 -- Shifts and rotations of bits as products and quotients.
-use Rattle.std.proofs.Common.{◌≡◌, ℕ, zero, suc, ◌+◌, ◌-◌, ◌*◌, ◌<◌, ◌≤◌, List, [], ◌∷◌, ◌++◌, length, refl, sym, ap, ◌∙◌, subst, arith}
+use Rattle.std.proofs.Common.{◌≡◌, ℕ, zero, suc, ◌+◌, ◌-◌, ◌*◌, ◌<◌, List, [], ◌∷◌, ◌++◌, length, refl, sym, ap, ◌∙◌, subst, arith}
 use Rattle.std.specs.Prelude.{◌/◌, ◌%◌, ◌^◌, take, drop, replicate}
 use Rattle.std.proofs.lemmas.Nat.{mod_below, pow-add, shr-shr, mod-pow-add, shr_below, div-mul-add, mod-mul-add}
 use Rattle.std.proofs.lemmas.List.{length-append, length-replicate}

@@ -267,3 +267,24 @@ uses m index arguments s fuel = by_function (function_at m index)
     by_function (Some g) h =
         counted (function_answer m (invoke m (most_frames - 1)) g (reverse (arguments_of g.ty.params arguments)) s)
         (function_steady m (most_frames - 1) (invoke_steady m (most_frames - 1)) Over over_steady g (reverse (arguments_of g.ty.params arguments)) s fuel h)
+
+-- ---- with less fuel
+
+left_with : (j : ℕ) (a : Answer Value) → Ends a → fuel_left (with_left j a) ≡ j
+left_with j (Returned vs s f) h = refl
+left_with j (Trapped kind s f) h = refl
+left_with j (Spent s) h = absurd h
+left_with j Stuck h = absurd h
+
+less_never_ends : (call : ℕ → Answer Value) (fuel less : ℕ) (u : Uses call fuel) → Uses call less → Ends (call less) → less < u.used → ⊥
+less_never_ends call fuel less u v ends lt =
+    let j = fuel - v.used in
+    let whole : fuel ≡ v.used + j = omega (arith, u.counted, v.counted, lt) in
+    let there : call fuel ≡ with_left j (call less) = ap call whole ∙ v.same j in
+    let left : fuel_left (call fuel) ≡ j = ap fuel_left there ∙ left_with j (call less) ends in
+    omega (arith, u.counted, v.counted, left, whole, lt)
+
+pub less_is_not_enough : (m : NestedModule) (index : ℕ) (arguments : List ℕ) (s : Store) (fuel less : ℕ)
+    → (u : Uses (answer_of m index arguments s) fuel) → less < u.used → Ends (answer_of m index arguments s less) → ⊥
+less_is_not_enough m index arguments s fuel less u lt ends =
+    less_never_ends (answer_of m index arguments s) fuel less u (uses m index arguments s less ends) ends lt

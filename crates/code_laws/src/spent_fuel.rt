@@ -1,5 +1,5 @@
 //! Laws of fuel.
-ghost use Rattle.std.specs.Prelude.{◌≡◌, ◌≤◌, ℕ, List, []};
+ghost use Rattle.std.specs.Prelude.{◌≡◌, ◌≤◌, ◌<◌, ℕ, List, []};
 ghost use Rattle.wasm_types.specs.Nested.{Code};
 ghost use Rattle.wasm_types.specs.Modules.{NestedModule};
 ghost use Rattle.code_specs.specs.Values.{Value};
@@ -14,10 +14,12 @@ pub fn fuel_never_rises()
 {}
 
 /// A call that returns or traps uses so much fuel. With any fuel that is as much or more it gives the same values, or
-/// the same trap, and the same store, and what is left is all but that.
+/// the same trap, and the same store, and what is left is all but that. With less it doesn't come to its end.
 pub fn calls_that_end_use_the_same_fuel()
-    ensures { (m : NestedModule) (index : ℕ) (arguments : List ℕ) (s : Store) (fuel : ℕ)
+    ensures same { (m : NestedModule) (index : ℕ) (arguments : List ℕ) (s : Store) (fuel : ℕ)
         → Ends (answer_of m index arguments s fuel) → Uses (answer_of m index arguments s) fuel }
+    ensures less { (m : NestedModule) (index : ℕ) (arguments : List ℕ) (s : Store) (fuel less : ℕ)
+        → (u : Uses (answer_of m index arguments s) fuel) → less < u.used → ¬ Ends (answer_of m index arguments s less) }
 {}
 
 /// A loop is its list, and the loop again at each branch to its label: the number of its iterations has no other bound
