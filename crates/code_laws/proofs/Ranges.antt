@@ -14,7 +14,7 @@ use Rattle.code_specs.specs.Signatures.{Signature, global_signature, signature_o
 use Rattle.code_specs.specs.Effects.{numeric_meaning, load_meaning, store_meaning, meaning_of}
 use Rattle.code_specs.specs.Execution.{answer_of}
 use Rattle.code_laws.specs.Answers.{Fit}
-use Rattle.code_laws.specs.Globals.{GlobalsFit, LeavesGlobals}
+use Rattle.code_laws.specs.Kept.{GlobalsFit, LeavesGlobals}
 use Rattle.code_laws.proofs.Tests.{some_is}
 use Rattle.code_laws.proofs.Kept.{KeepsMeaning, kept}
 
@@ -49,11 +49,11 @@ sets m op index n g is fits = by_global (slice_get m.globals index) refl is
     by_global None at e = cc
     by_global (Some x) at e = by_tests x (op == 0x23) (op == 0x24 && x.mutable) at e
 
-numeric_keeps : (P : Store → Type 0) (x : Result ℕ NumTrap) (s : Store) → P s → KeepsMeaning P (numeric_meaning x s)
+pub numeric_keeps : (P : Store → Type 0) (x : Result ℕ NumTrap) (s : Store) → P s → KeepsMeaning P (numeric_meaning x s)
 numeric_keeps P (Ok n) s h = h
 numeric_keeps P (Err e) s h = tt
 
-load_keeps : (P : Store → Type 0) (op : ℕ) (s : Store) (o : Option (List ℕ)) → P s → KeepsMeaning P (load_meaning op s o)
+pub load_keeps : (P : Store → Type 0) (op : ℕ) (s : Store) (o : Option (List ℕ)) → P s → KeepsMeaning P (load_meaning op s o)
 load_keeps P op s None h = tt
 load_keeps P op s (Some bytes) h = h
 

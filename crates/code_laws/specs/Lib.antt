@@ -3,4 +3,4 @@ pub mod Codes
 pub mod Answers
 pub mod Fuel
 pub mod Bare
-pub mod Globals
+pub mod Kept

@@ -10,7 +10,8 @@ mod typed_code;
 pub use bit_operations::shifts_are_products_and_quotients;
 pub use one_instruction::numbers_alone_are_enough;
 pub use sound_calls::{
-    calls_return_values_of_their_types, globals_stay_in_range, valid_calls_are_never_stuck,
+    calls_return_values_of_their_types, globals_stay_in_range, memories_never_become_smaller,
+    valid_calls_are_never_stuck,
 };
 pub use spent_fuel::{calls_that_end_use_the_same_fuel, fuel_never_rises, loops_begin_again};
 pub use typed_code::{

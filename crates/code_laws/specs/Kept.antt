@@ -1,5 +1,5 @@
--- What the laws say of globals.
-use Rattle.std.specs.Prelude.{List, map}
+-- What the laws say of stores.
+use Rattle.std.specs.Prelude.{ℕ, ◌≤◌, List, length, map}
 use Rattle.wasm_types.specs.declared.instr.ValType.{ValType}
 use Rattle.wasm_types.specs.declared.module.GlobalVar.{GlobalVar}
 use Rattle.wasm_types.specs.Modules.{NestedModule}
@@ -21,3 +21,14 @@ LeavesGlobals m (Returned vs s fuel) = GlobalsFit m s
 LeavesGlobals m (Trapped kind s fuel) = GlobalsFit m s
 LeavesGlobals m (Spent s) = GlobalsFit m s
 LeavesGlobals m Stuck = Unit {0}
+
+-- the memory has as many bytes as this at least
+abbrev pub HasBytes : (count : ℕ) → Store → Type 0
+HasBytes count s = count ≤ length s.bytes
+
+-- so it has when the call is over, however it ends
+abbrev pub LeavesBytes : (count : ℕ) → Answer Value → Type 0
+LeavesBytes count (Returned vs s fuel) = HasBytes count s
+LeavesBytes count (Trapped kind s fuel) = HasBytes count s
+LeavesBytes count (Spent s) = HasBytes count s
+LeavesBytes count Stuck = Unit {0}
