@@ -1,6 +1,6 @@
 -- The memory never becomes smaller.
-use Rattle.std.proofs.Common.{◌≡◌, ℕ, zero, suc, ◌+◌, ◌-◌, ◌*◌, ◌≤◌, List, [], ◌∷◌, ◌++◌, length, Option, Some, None, refl, sym, ap, ◌∙◌, subst, Bool, true, false, arith}
-use Rattle.std.specs.Prelude.{Result, Ok, Err, cond, take, drop, negsuc, replicate, nat_le}
+use Rattle.std.proofs.Common.{◌≡◌, ℕ, zero, suc, ◌+◌, ◌*◌, ◌≤◌, List, [], ◌∷◌, ◌++◌, length, Option, Some, None, sym, subst, Bool, true, false, arith}
+use Rattle.std.specs.Prelude.{Ok, cond, take, drop, negsuc, replicate, nat_le}
 use Rattle.std.proofs.lemmas.List.{length-append, length-drop}
 use Rattle.wasm_types.specs.declared.instr.Instr.{Instr}
 use Rattle.wasm_types.specs.declared.instr.Instr.TheVariants as instr
@@ -9,11 +9,11 @@ use Rattle.code_specs.specs.Stores.{Store, page_size, pages, greatest_pages, byt
 use Rattle.code_specs.specs.Integers.{unsigned}
 use Rattle.code_specs.specs.Numerics.{binary}
 use Rattle.code_specs.specs.Signatures.{Signature, signature_of, access_bytes}
-use Rattle.code_specs.specs.Effects.{Computed, store_meaning, meaning_of}
-use Rattle.code_specs.specs.Execution.{Answer, answer_of}
+use Rattle.code_specs.specs.Effects.{store_meaning, meaning_of}
+use Rattle.code_specs.specs.Execution.{answer_of}
 use Rattle.code_laws.specs.Answers.{Fit}
 use Rattle.code_laws.specs.Kept.{HasBytes, LeavesBytes}
-use Rattle.code_laws.proofs.Kept.{KeepsMeaning, Keeper, kept}
+use Rattle.code_laws.proofs.Kept.{KeepsMeaning, kept}
 use Rattle.code_laws.proofs.Ranges.{numeric_keeps, load_keeps}
 
 no_fewer : (bytes : List ℕ) (address : ℕ) (new : List ℕ) → length bytes ≤ length (replaced_at bytes address new)
