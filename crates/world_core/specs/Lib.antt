@@ -1,2 +1,6 @@
 pub mod Setups
 pub mod Events
+pub mod Courses
+pub mod Units
+pub mod Seen
+pub mod Kept

@@ -1,8 +1,12 @@
 //! A network of units on several buses, event by event, over any unit of FMI 3.0.
 #![tactic(auto)]
 
+mod course;
 mod event;
 mod plan;
+mod standing;
+mod world;
 
 pub use event::{Event, What};
 pub use plan::{NodePlan, Plan};
+pub use world::World;
