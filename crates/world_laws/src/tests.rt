@@ -1,0 +1,37 @@
+//! The laws stand at a concrete type.
+use crate::{
+    a_moment_has_one_sessions, any_order_gives_the_same_nodes, each_event_comes_behind_the_last,
+    each_log_ends_with_its_status, each_session_is_from_the_state_before, moments_never_fall,
+    no_line_is_earlier_than_the_one_before_it, nothing_is_ever_late, numbers_stay_small,
+    only_live_nodes_are_closed, only_who_takes_part_changes, others_have_no_session,
+    plans_open_networks_that_fit, sessions_join, sessions_leave_nothing_waiting,
+    the_next_event_is_foremost, two_orders_give_the_same_nodes, units_of_a_plan_fit,
+    what_fits_goes_on_to_fit, who_is_not_live_holds_nothing, who_is_out_stays_out,
+};
+use std::test::Fail;
+
+#[test]
+fn the_laws_stand_at_numbers(_rt: HostRuntime) -> Result<(), Fail> {
+    the_next_event_is_foremost::<u32>();
+    moments_never_fall::<u32>();
+    nothing_is_ever_late::<u32>();
+    no_line_is_earlier_than_the_one_before_it::<u32>();
+    each_log_ends_with_its_status::<u32>();
+    others_have_no_session::<u32>();
+    only_who_takes_part_changes::<u32>();
+    who_is_out_stays_out::<u32>();
+    only_live_nodes_are_closed::<u32>();
+    sessions_join::<u32>();
+    any_order_gives_the_same_nodes::<u32>();
+    two_orders_give_the_same_nodes::<u32>();
+    each_session_is_from_the_state_before::<u32>();
+    units_of_a_plan_fit::<u32>();
+    plans_open_networks_that_fit::<u32>();
+    what_fits_goes_on_to_fit::<u32>();
+    each_event_comes_behind_the_last::<u32>();
+    a_moment_has_one_sessions::<u32>();
+    sessions_leave_nothing_waiting::<u32>();
+    who_is_not_live_holds_nothing::<u32>();
+    numbers_stay_small::<u32>();
+    Ok(())
+}

@@ -1,0 +1,3 @@
+//! A network of nodes on several buses, event by event, as definitions that other crates cite. There is no code
+//! here.
+#![tactic(auto)]
