@@ -67,25 +67,23 @@ KINDS = {
     "segments": lambda count: with_memory([b"\0\x41\0\x0b\0"] * count),
     # functions without code: four bytes for each
     "functions": lambda count: many_bodies(b"\0\x0b", count),
-    # exports of one function, under names of four letters
+    # exports of one function, under names of five letters
     "exports": lambda count: HEADER + section(1, NO_TYPE) + section(3, b"\1\0")
-    + section(7, vector([b"\4" + name_of(index) + b"\0\0" for index in range(count)])) + section(10, b"\1\2\0\x0b"),
+    + section(7, vector([b"\5" + name_of(index) + b"\0\0" for index in range(count)])) + section(10, b"\1\2\0\x0b"),
 }
 
 
 def name_of(index):
-    return bytes(97 + index // 26**place % 26 for place in range(4))
+    return bytes(97 + index // 26**place % 26 for place in range(5))
 
 
 def largest(kind, limit):
     """The module with as many parts as fit into so many bytes."""
-    low, high = 0, limit
-    step = (len(kind(20)) - len(kind(10))) // 10
-    high = limit // step + 1
-    while high - low > 1:
-        middle = (low + high) // 2
-        low, high = (middle, high) if len(kind(middle)) <= limit else (low, middle)
-    return kind(low)
+    part = (len(kind(20)) - len(kind(10))) // 10
+    count = (limit - len(kind(0))) // part
+    while len(kind(count)) > limit:
+        count -= 1
+    return kind(count)
 
 
 def counts():
