@@ -1,8 +1,7 @@
 #!/usr/bin/env python3
 """Writes the line of `bench wasm` for valid WebAssembly modules of integers (Core 1.0, section 5).
 
-Run: tools/module_line.py FILE... It looks for no faults and takes nothing from the crates: tools/modules.sh compares the two.
-"""
+Run: tools/module_line.py FILE... It looks for no faults and takes nothing from the crates: tools/modules.sh compares the two."""
 import sys
 
 # What follows an opcode: "u" an unsigned number, "s" a signed one, "t" a byte, "z" a byte 00.
