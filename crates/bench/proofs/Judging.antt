@@ -1,6 +1,6 @@
 -- Every file is judged: it is too long, or read as what it is.
-use Rattle.std.proofs.Common.{◌≡◌, ◌≤◌, ◌<◌, ℕ, Bool, true, false, List, length, refl, arith}
-use Rattle.std.specs.Prelude.{Result, Ok, Err, nat_lt}
+use Rattle.std.proofs.Common.{◌≡◌, ◌≤◌, ℕ, Bool, true, false, List, length, refl, arith}
+use Rattle.std.specs.Prelude.{Result, Err, nat_lt}
 use Rattle.play_specs.specs.Play.{Play}
 use Rattle.play_file.specs.Walk.{walk}
 use Rattle.play_file.proofs.Files.{walk_exact}
@@ -8,7 +8,6 @@ use Rattle.bench_outside.specs.declared.refusal.Refusal.{Refusal}
 use Rattle.bench_outside.specs.declared.refusal.Why.TheVariants.{Size}
 use Rattle.bench_outside.specs.Shelf.{Contents}
 use Rattle.bench.specs.Refusals.{main_refusal}
-use Rattle.bench.specs.Deed.{Deed}
 use Rattle.bench.specs.Playing.{Judgement, TooLong, Read, placed, deed_of, IsPlayDeed}
 
 pub judged_of : (limit : ℕ) (bytes : List ℕ) → (j : Result Play Refusal) × Judgement limit bytes j

@@ -1,3 +1,4 @@
 pub mod Spaced
 pub mod Refusing
 pub mod Judging
+pub mod Modules

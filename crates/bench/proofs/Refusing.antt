@@ -1,5 +1,5 @@
 -- What is read as a play has no bad line.
-use Rattle.std.proofs.Common.{◌≡◌, ℕ, List, ◌⊎◌, inl, inr}
+use Rattle.std.proofs.Common.{◌≡◌, ℕ, List}
 use Rattle.std.specs.Prelude.{Result, Ok, Err}
 use Rattle.play_specs.specs.Play.{Play}
 use Rattle.play_specs.specs.PlayReading.{IsFirstBadLine}

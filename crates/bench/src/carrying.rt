@@ -9,6 +9,7 @@ ghost use Rattle.bench.specs.Deeds.{Does};
 
 use crate::playing::play;
 use crate::status::Status;
+use crate::telling::tell_module;
 use crate::words::Command;
 use bench_outside::{Shelf, Sink};
 use std::alloc::Global;
@@ -34,5 +35,6 @@ pub(crate) fn carry_out<H: Shelf, O: Sink>(
 {
     match command {
         Command::Play(file) => play(alloc, file, shelf, out),
+        Command::Wasm(file) => tell_module(alloc, file, shelf, out),
     }
 }

@@ -1,4 +1,5 @@
-//! The bench: `play FILE` runs the play of a file on one simulated CAN bus and writes its log.
+//! The bench: `play FILE` runs the play of a file on one simulated CAN bus and writes its log, and `wasm FILE`
+//! writes what the WebAssembly module of a file holds.
 #![tactic(auto)]
 
 ghost use Rattle.std.specs.Prelude.{◌≡◌, ◌↔◌, [], IfOk, IsErr};
@@ -7,8 +8,10 @@ ghost use Rattle.std.specs.IoError.{error_kind};
 mod carrying;
 mod fetching;
 mod playing;
+mod refusals;
 mod reporting;
 mod status;
+mod telling;
 #[cfg(test)]
 mod tests;
 mod top;

@@ -8,7 +8,6 @@ ghost use Rattle.bench_outside.specs.Causes.{Rose};
 ghost use Rattle.bench_outside.specs.Pieces.{joined, WritesAll, BreaksOff, StopsBefore};
 ghost use Rattle.bench_outside.specs.declared.refusal.FileId.{FileId};
 ghost use Rattle.bench_outside.specs.declared.refusal.Refusal.{Refusal};
-ghost use Rattle.bench.specs.Refusals.{main_refusal};
 ghost use Rattle.bench.specs.Statuses.{WritesNothing};
 ghost use Rattle.bench.specs.Words.{Play};
 ghost use Rattle.bench.specs.Deed.{Deed, CarriedOut, Caused, IsFault};
@@ -16,8 +15,9 @@ ghost use Rattle.bench.specs.Deeds.{Does};
 ghost use Rattle.bench.specs.Playing.{placed, status_of, lines_of, file_limit, event_budget};
 
 use crate::fetching::{FetchError, fetch};
+use crate::refusals::refused;
 use crate::status::Status;
-use bench_outside::{FileId, Refusal, Shelf, Sink, Why};
+use bench_outside::{FileId, Shelf, Sink, Why};
 use play_file::{PlayError, read_play};
 use play_run::{Ending, RunError, run};
 use std::alloc::Global;
@@ -99,16 +99,4 @@ pub(crate) fn play_bytes<O: Sink>(alloc: Global, budget: u64, bytes: &[u8], out:
         Err(RunError::Unwritten) => Status::Unwritten,
         Err(RunError::Memory) => Status::Memory,
     }
-}
-
-/// The file that the command names breaks this rule at this place.
-fn refused(why: Why, place: u64) -> Status
-    ensures { result ≡ Status.Refused (main_refusal why place) }
-{
-    Status::Refused(Refusal {
-        file: FileId::Main,
-        why,
-        place,
-        at: 0,
-    })
 }

@@ -1,6 +1,5 @@
-use Rattle.std.proofs.Common.{rules, ◌≡◌, ◌≤◌, sym, ap, ◌∙◌, refl, arith, inl, inr, subst, ℕ, List, length}
+use Rattle.std.proofs.Common.{◌≡◌, ◌≤◌, sym, ap, ◌∙◌, arith, inl, inr, subst, ℕ, List, length}
 use Rattle.std.specs.Prelude.{Err}
-use Rattle.play_specs.specs.PlayReading.{IsReadAs}
 use Rattle.play_file.specs.Walk.{walk}
 use Rattle.play_file.proofs.Files.{walk_exact}
 use Rattle.bench_outside.specs.PieceSteps.{stops_untouched, writes_nothing}

@@ -1,4 +1,3 @@
-use Rattle.std.proofs.Common.{rules, ◌≡◌}
 use Rattle.bench.proofs.Refusing.{not_refused}
 use Rattle.bench.proofs.playing.play_bytes.Goals as goal
 

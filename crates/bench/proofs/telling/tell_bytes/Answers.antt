@@ -1,0 +1,15 @@
+use Rattle.std.proofs.Common.{◌≡◌, ◌∷◌, [], ap, subst, ◌∙◌}
+use Rattle.module_specs.specs.ModuleReading.{module_read}
+use Rattle.bench_outside.specs.Pieces.{BreaksOff}
+use Rattle.bench_outside.specs.PieceSteps.{breaks_one}
+use Rattle.bench.specs.Telling.{read_lines}
+use Rattle.bench.proofs.Modules.{one_line}
+use Rattle.bench.proofs.telling.tell_bytes.Goals as goal
+
+pub returns-clause-broken : goal.returns-clause-broken
+returns-clause-broken g c unwritten =
+    let piece = c.deref.result.now in
+    let same : piece ∷ [] ≡ read_lines (module_read c.args.bytes.now) =
+    ap (λ l. l ∷ []) c.deref.ensures.value ∙ one_line c.in-Ok.line.items (module_read c.args.bytes.now) c.in-Ok.ensures.line in
+    subst (λ lines. BreaksOff g.O.Sink c.args.out.now c.write.new.self lines) same
+    (breaks_one g.O.Sink c.args.out.now c.write.new.self piece c.in-Err-write.ensures.part c.write.ensures.made)
