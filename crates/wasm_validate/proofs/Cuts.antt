@@ -59,4 +59,3 @@ cut_view xs top h stack le e lt =
     ap reverse (sym (take-take h top xs (omega (arith, n, m))) ∙ ap (λ j. take j ys) (sym i))
     ∙ reverse_take k ys (omega (arith, m))
     ∙ ap (drop k) e
-

@@ -81,13 +81,7 @@ impl TypeStack {
             };
         }
         match self.types.pop() {
-            Some(Some(u)) => {
-                if u == t {
-                    Ok(())
-                } else {
-                    Err(Rule::Operand)
-                }
-            }
+            Some(Some(u)) => { if u == t { Ok(()) } else { Err(Rule::Operand) } }
             _ => Ok(()),
         }
     }
