@@ -1,0 +1,7 @@
+mod Branches
+mod Checks
+mod Cuts
+mod Labelled
+mod Markings
+mod Powers
+mod Runs
