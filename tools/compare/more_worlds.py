@@ -1,12 +1,22 @@
 """More worlds worked out by hand: operations that aren't frames, notices, errors, and ends."""
-from world_parts import CLOSED, DISCARD, FD_FRAME, FRAME, HEAD, ONE, UNKNOWN
+from world_parts import CLOSED, DISCARD, FD_FRAME, FRAME, HEAD, ONE, UNKNOWN, WAKEUP
 from world_parts import opened, plain, stepped, terminals, turn
 
 OWN_RATE, OTHER_RATE = "400000000d0000000190d00300", "400000000d0000000120a10700"  # 250000, 500000
 OWN_DATA_RATE, OTHER_DATA_RATE = "400000000d0000000280841e00", "400000000d0000000207000000"  # 2000000, 7
 PASSIVE, KEEP, NOTHING_SAID = "410000000900000002", "400000000a0000000401", "010000000a0000000000"
 AT_98000 = ["interval ok 98 1000000 changed"]
+AT_5248000 = ["interval ok 5248 1000000 changed"]
+UNCHANGED = ["interval ok 0 0 unchanged"]
 OPENING = ["Instantiate", "EnterInit", "ExitInit"]
+
+# An error passive sender suspends, so the later attempts are 84,000 ticks apart; 128 * 11 bits behind the last one
+# and its intermission the node is back.
+STARTS = [68000 * place for place in range(16)] + [1104000 + 84000 * place for place in range(16)]
+STATES = {1082000: "1082000 0 state 0 passive\n", 2426000: "2426000 0 state 0 off\n"}
+ATTEMPTS = "".join(f"{start} 0 start 0 000#\n{start + 62000} 0 fail 0 000# 1 0\n" + STATES.get(start + 62000, "")
+                   for start in STARTS)
+OFF_AND_BACK = "0 0 req 0 000#\n" + ATTEMPTS + "5248000 0 back 0\n5248000 0 wake 1\nend 0 99"
 
 WORLDS = [
     ("operations without a frame, bus by bus", HEAD + ["bus 250000 0"]
@@ -101,4 +111,9 @@ end 0 1""", {
         1: OPENING + ["GetClock 2", "GetBinary 3", "Update", "GetInterval 4"],
         2: OPENING + ["GetClock 2", "Update", "GetInterval 4", "EnterStep", "Terminate", "Free"],
     }),
+    ("a node that is off comes back before the sessions of that moment", HEAD + ["error 1 32 1 sender 10"]
+     + terminals(0) + opened(FRAME) + stepped(2, None) * 32 + CLOSED
+     + terminals(0) + ["clock 4"] + opened(None, intervals=AT_5248000)
+     + stepped(2, None, intervals=UNCHANGED) * 32 + stepped(1, WAKEUP, intervals=UNKNOWN) + CLOSED,
+     (5249000, 1000), OFF_AND_BACK, {}),
 ]
