@@ -1,34 +1,22 @@
 #!/usr/bin/env python3
 """A second implementation of `bench play FILE`, which takes nothing from the crates.
 
-It has the text of a play file and one CAN bus with its errors, fault confinement, sleep and notices,
-which docs/FORMATS.md and docs/BUS.md describe; wire.py has the frames. `compare.py` compares it with
-the program.
+It has the text of a play file, which docs/FORMATS.md describes; bus.py has the bus. `compare.py` compares
+it with the program.
 """
-import bisect
 import functools
-import itertools
 import os
 import re
 import sys
 
-import wire
+from bus import ACT, FINISH, RETURN, START, Bus
+from member import Error, Member, Sent
 
 SIZE_LIMIT = 2 ** 24
 EVENT_BUDGET = 10 ** 6
 LATEST = 2 ** 62
-MOST_REQUESTS = 256
 MOST_ERRORS = 1024
 DECIMAL = re.compile(rb"(0|[1-9][0-9]*)\Z")
-FINISH, RETURN, LINES, START = range(4)
-ACTIVE, PASSIVE, OFF = b"active", b"passive", b"off"
-
-INTERMISSION = 3  # in nominal bits, as all that follow
-SUSPENSION = 8
-ERROR_FRAME = 20
-OCCURRENCE = 11
-OCCURRENCES = 128
-NO_ACKNOWLEDGEMENT = 5
 
 
 class Refused(Exception):
@@ -53,26 +41,12 @@ def bit_time(rate, resolution):
     return resolution // rate
 
 
-class Sent:
-    """A frame that a play sends: its text, its place in arbitration, and the end of each of its bits."""
-
-    def __init__(self, text, frame, ticks):
-        self.text = text
-        self.identifier = frame.identifier
-        self.key = wire.arbitration_bits(frame)
-        self.ends = list(itertools.accumulate(ticks))
-
-
-class Error:
-    """A line of the error script: attempts, kind, node (None for the sender) and bit."""
-
-    def __init__(self, words, nodes):
-        _, first, count, kind, by, bit = words
-        self.first = number(first, 1, 2 ** 32)
-        self.last = self.first + number(count, 1, 2 ** 32) - 1
-        self.kind = number(kind, 1, 4)
-        self.by = None if by == b"sender" else number(by, 0, nodes - 1)
-        self.bit = number(bit, 0, 1023)
+def read_error(words, nodes):
+    _, first, count, kind, by, bit = words
+    first = number(first, 1, 2 ** 32)
+    count = number(count, 1, 2 ** 32)
+    by = None if by == b"sender" else number(by, 0, nodes - 1)
+    return Error(first, count, number(kind, 1, 4), by, number(bit, 0, 1023))
 
 
 class Play:
@@ -93,15 +67,12 @@ class Play:
         self.sent = functools.lru_cache(None)(self.read_sent)
 
     def read_sent(self, text):
-        frame = wire.read_frame(text)
-        if frame is None or (frame.fd and self.fast is None):
-            raise ValueError
-        return Sent(text, frame, wire.bit_times(frame, self.nominal, self.fast))
+        return Sent(text, self.nominal, self.fast)
 
     def take_error(self, words):
         if self.actions or len(self.errors) == MOST_ERRORS:
             raise ValueError
-        self.errors.append(Error(words, self.nodes))
+        self.errors.append(read_error(words, self.nodes))
 
     def take_action(self, words):
         moment, node, name, *rest = words
@@ -139,230 +110,41 @@ def read_play(text):
     return play
 
 
-class Node:
-    """A node on the bus. Its requests stand by arbitration, the earlier of equals first."""
-
-    def __init__(self):
-        self.awake = True
-        self.discards = False
-        self.tec = 0
-        self.rec = 0
-        self.occurrences = 0
-        self.requests = []
-        self.notices = {}  # by name: when it falls due, and its text
-
-    def state(self):
-        if self.tec > 255:
-            return OFF
-        return PASSIVE if max(self.tec, self.rec) > 127 else ACTIVE
-
-    def sent(self):
-        self.tec = max(self.tec - 1, 0)
-
-    def received(self):
-        self.rec = 119 if self.rec > 127 else max(self.rec - 1, 0)
-
-    def failed_to_send(self, kind):
-        if kind != NO_ACKNOWLEDGEMENT or self.state() == ACTIVE:
-            self.tec += 8
-
-    def saw_error(self, itself):
-        """An error as a receiver: one that it detected itself, or another's."""
-        self.rec = min(self.rec + (8 if itself else 1), 255)
-
-
-class Attempt:
-    """A frame on the wire: when it ends, and how."""
-
-    def __init__(self, sender, request, listeners):
-        self.sender = sender
-        self.request = request
-        self.listeners = listeners
-        self.end = None
-        self.failure = None  # the kind of an error, and the node that detects it
-        self.hurt = None  # a passive listener with an error of its own, and the error's kind
-
-
-class Bus:
-    """The bus of a play, and the log so far."""
+class PlayedBus(Bus):
+    """The bus of a play, whose nodes are all live and take no mail."""
 
     def __init__(self, play):
-        self.errors = play.errors
-        self.bit = play.nominal
-        self.nodes = [Node() for _ in range(play.nodes)]
-        self.accepted = 0
-        self.attempts = 0
-        self.running = None
-        self.idle = 0
-        self.last_sender = None
-        self.log = []
-
-    def print(self, now, text, *parts):
-        self.log.append(b"%d 0 " % now + text % parts + b"\n")
+        members = {number: Member(True) for number in range(play.nodes)}
+        super().__init__(0, play.nominal, play.errors, members, [])
 
     def next_due(self, now):
         """The moment, kind and node of what the bus does next, or None."""
-        due = [(moment, LINES, 0) for node in self.nodes for moment, _ in node.notices.values()]
-        if self.running is not None:
-            due.append((self.running.end, FINISH, 0))
-            return min(due)
-        for place, node in enumerate(self.nodes):
-            if node.state() == OFF:
-                left = OCCURRENCES - node.occurrences
-                due.append((self.idle + left * OCCURRENCE * self.bit, RETURN, place))
-            elif self.may_send(place):
-                due.append((max(now, self.ready(place)), START, 0))
-        return min(due, default=None)
+        due = [(moment, ACT, 0) for moment in self.notice_moments()]
+        return min(due + list(self.dues(now)), default=None)
 
-    def may_send(self, place):
-        node = self.nodes[place]
-        return node.awake and node.state() != OFF and bool(node.requests)
-
-    def ready(self, place):
-        """From when on a node may start a frame: a passive one suspends behind its own."""
-        suspends = place == self.last_sender and self.nodes[place].state() == PASSIVE
-        return self.idle + (SUSPENSION * self.bit if suspends else 0)
-
-    def start(self, now):
-        for node in self.nodes:
-            if node.state() == OFF:
-                node.occurrences += (now - self.idle) // (OCCURRENCE * self.bit)
-        able = [place for place in range(len(self.nodes))
-                if self.may_send(place) and self.ready(place) <= now]
-        winner = min(able, key=lambda place: (self.nodes[place].requests[0][0], place))
-        request = self.nodes[winner].requests[0]
-        self.attempts += 1
-        self.print(now, b"start %d %s", winner, request[2].text)
-        for place in able:
-            if place != winner:
-                self.lose(now, place)
-        self.running = self.attempt(now, winner, request)
-
-    def lose(self, now, place):
-        node = self.nodes[place]
-        sent = node.requests[0][2]
-        if node.discards:
-            node.requests.pop(0)
-            node.notices["lost"] = now + self.bit, b"lost %08x" % sent.identifier
-        self.print(now, b"lost %d %s %s", place, sent.text, b"gone" if node.discards else b"keep")
-
-    def attempt(self, now, sender, request):
-        """How the frame that starts now will end."""
-        listeners = [place for place, node in enumerate(self.nodes)
-                     if place != sender and node.awake and node.state() != OFF]
-        attempt = Attempt(sender, request, listeners)
-        ends = request[2].ends
-        attempt.end = now + ends[-1]
-        error, by = self.error(sender, listeners)
-        if error is not None and (by == sender or self.nodes[by].state() != PASSIVE):
-            attempt.failure = error.kind, by
-            attempt.end = now + ends[min(error.bit, len(ends) - 1)] + ERROR_FRAME * self.bit
-            return attempt
-        if error is not None:
-            attempt.hurt = by, error.kind
-            listeners.remove(by)
-        if not listeners:
-            attempt.failure = NO_ACKNOWLEDGEMENT, sender
-            attempt.end = now + ends[-9] + ERROR_FRAME * self.bit
-        return attempt
-
-    def error(self, sender, listeners):
-        """The first line of the script for this attempt and one of its nodes, and that node."""
-        for error in self.errors:
-            by = sender if error.by is None else error.by
-            if error.first <= self.attempts <= error.last and (by == sender or by in listeners):
-                return error, by
-        return None, None
-
-    def finish(self, now):
-        attempt, self.running = self.running, None
-        before = [node.state() for node in self.nodes]
-        for node in self.nodes:
-            if node.state() == OFF:
-                node.occurrences += 1
-        self.idle = now + INTERMISSION * self.bit
-        self.last_sender = attempt.sender
-        if attempt.failure is None:
-            self.deliver(now, attempt)
-        else:
-            self.fail(now, attempt)
-        if attempt.hurt is not None:
-            self.nodes[attempt.hurt[0]].saw_error(True)
-            self.print(now, b"hurt %d %d", *attempt.hurt)
-        for place, node in enumerate(self.nodes):
-            if node.state() != before[place]:
-                self.print(now, b"state %d %s", place, node.state())
-                if node.state() == OFF:
-                    node.requests.clear()
-                    node.occurrences = 0
-
-    def deliver(self, now, attempt):
-        sender = self.nodes[attempt.sender]
-        sender.requests.remove(attempt.request)
-        sender.sent()
-        receivers = [place for place in attempt.listeners if self.nodes[place].awake]
-        for place in receivers:
-            self.nodes[place].received()
-        names = b",".join(b"%d" % place for place in receivers) or b"-"
-        self.print(now, b"done %d %s to %s", attempt.sender, attempt.request[2].text, names)
-
-    def fail(self, now, attempt):
-        kind, by = attempt.failure
-        self.nodes[attempt.sender].failed_to_send(kind)
-        for place in attempt.listeners:
-            self.nodes[place].saw_error(place == by)
-        self.print(now, b"fail %d %s %d %d", attempt.sender, attempt.request[2].text, kind, by)
-
-    def come_back(self, now, place):
-        node = self.nodes[place]
-        node.tec = node.rec = 0
-        self.print(now, b"back %d", place)
-
-    def tell(self, now):
-        """The notices that are due now."""
-        for place, node in enumerate(self.nodes):
-            for name in ("lost", "wake"):
-                moment, text = node.notices.get(name, (None, None))
-                if moment == now:
-                    self.print(now, b"told %d %s", place, text)
-                    del node.notices[name]
-                    node.awake = node.awake or name == "wake"
+    def tell_all(self, now):
+        for place in self.members:
+            self.tell(now, place)
 
     def act(self, now, place, name, sent):
         if name == b"send":
             self.ask(now, place, sent)
-            return
-        self.print(now, b"%s %d", name, place)
-        node = self.nodes[place]
-        if name in (b"keep", b"discard"):
-            node.discards = name == b"discard"
-            return
-        node.awake = name == b"wake"
-        for other in self.nodes:
-            if name == b"wake" and other is not node:
-                other.notices.setdefault("wake", (now + self.bit, b"wake"))
-
-    def ask(self, now, place, sent):
-        node = self.nodes[place]
-        if node.state() == OFF:
-            answer = b"drop"
-        elif len(node.requests) == MOST_REQUESTS:
-            answer = b"full"
+        elif name == b"wake":
+            self.wake(now, place)
+        elif name == b"sleep":
+            self.sleep(now, place)
         else:
-            answer = b"req"
-            bisect.insort(node.requests, (sent.key, self.accepted, sent))
-            self.accepted += 1
-        self.print(now, answer + b" %d %s", place, sent.text)
+            self.configure(now, place, name == b"discard")
 
 
 def run(play):
     """The status of a play, and its log."""
-    bus, now, events, place = Bus(play), 0, 0, 0
+    bus, now, events, place = PlayedBus(play), 0, 0, 0
     actions = play.actions
     while True:
         due = [event for event in [bus.next_due(now)] if event]
         if place < len(actions):
-            due.append((actions[place][0], LINES, 0))
+            due.append((actions[place][0], ACT, 0))
         if not due or min(due)[0] > play.stop:
             status = 0
             break
@@ -378,7 +160,7 @@ def run(play):
         elif kind == START:
             bus.start(now)
         else:
-            bus.tell(now)
+            bus.tell_all(now)
             while place < len(actions) and actions[place][0] == now:
                 bus.act(*actions[place])
                 place += 1
