@@ -1,0 +1,3 @@
+pub mod Ascii
+pub mod Counts
+pub mod Rates

@@ -1,0 +1,11 @@
+pub mod Names
+pub mod Settings
+pub mod Buses
+pub mod Nodes
+pub mod Scripts
+pub mod NetworkFiles
+pub mod Plans
+pub mod Judging
+pub mod Networks
+pub mod Worked
+pub mod WorkedFolders
