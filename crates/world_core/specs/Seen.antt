@@ -1,7 +1,7 @@
 -- What a contract sees of a world.
-use Rattle.std.specs.Prelude.{Bool, List}
+use Rattle.std.specs.Prelude.{Bool, false, List}
 use Rattle.world_specs.specs.World.{World}
-use Rattle.world_specs.specs.Plan.{Plan}
+use Rattle.world_specs.specs.Plan.{Plan, opening_of}
 
 -- Its plan, its network, the state of the unit of each node, also of one that is down or over, what the units share, and whether it
 -- has failed.
@@ -11,3 +11,7 @@ pub record Seen (S G : Type 0) : Type 0 where
   pub units : List S
   pub shared : G
   pub failed : Bool
+
+-- nothing has happened in the network of a plan
+abbrev pub opened : {S G : Type 0} → Plan → List S → G → Seen S G
+opened p states shared = record { plan = p; network = opening_of p states; units = states; shared = shared; failed = false }

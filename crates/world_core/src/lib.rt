@@ -3,6 +3,8 @@
 
 mod course;
 mod event;
+mod next;
+mod opening;
 mod plan;
 mod standing;
 mod world;

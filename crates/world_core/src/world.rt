@@ -1,8 +1,17 @@
 //! A network and its units.
-ghost use Rattle.std.specs.Prelude.{◌≡◌, false};
+ghost use Rattle.std.specs.Prelude.{◌≡◌, ◌<◌, All, IfOk, Some, false, length, option_map, slice_get};
+ghost use Rattle.fmi_states.specs.declared.phase.Phase.TheVariants.{Fresh};
+ghost use Rattle.world_specs.specs.Next.{next_event};
+ghost use Rattle.world_specs.specs.Plan.{IsPlan};
+ghost use Rattle.world_core.specs.Events.{event_of};
+ghost use Rattle.world_core.specs.Seen.{opened};
+ghost use Rattle.world_core.specs.Units.{AreApart, states_of};
 
 use crate::course::Course;
+use crate::event::Event;
+use crate::plan::Plan;
 use fmi_states::Ecu;
+use std::alloc::{AllocError, Global};
 use std::marker::Model;
 
 /// A network of nodes on several buses, with the unit of each node.
@@ -39,6 +48,37 @@ impl<E: Ecu> Model for World<E> {
 }
 
 impl<E: Ecu> World<E> {
+    /// The network of a plan, in which nothing has happened, with a fresh unit for each node.
+    pub fn new(
+        alloc: Global,
+        plan: Plan,
+        ecus: Vec<E>,
+        shared: E::Shared,
+    ) -> Result<World<E>, AllocError>
+        requires plan { IsPlan plan }
+        requires each { length ecus.items ≡ length plan.nodes }
+        requires fresh { All (λ e. E.phase_of (E.state e shared) ≡ Fresh) ecus.items }
+        requires apart { AreApart E.Ecu ecus.items shared }
+        ensures { IfOk result (λ world. world ≡ opened plan (states_of E.Ecu ecus.items shared) shared) }
+    {
+        let course = Course::opening(alloc, plan)?;
+        Ok(World {
+            course,
+            ecus,
+            shared,
+            failed: false,
+        })
+    }
+
+    /// What happens next: the first of all that is enabled, where it isn't after the stop of the plan.
+    /// None exactly where nothing is enabled up to the stop.
+    pub fn next_event(&self) -> Option<Event>
+        requires goes_on { self.now.failed ≡ false }
+        ensures { option_map event_of result ≡ next_event self.now.plan.stop self.now.network }
+    {
+        self.course.next_event()
+    }
+
     /// How many events have happened.
     pub fn events(&self) -> u64
         ensures { result ≡ self.now.network.events }
@@ -51,6 +91,16 @@ impl<E: Ecu> World<E> {
         ensures { result ≡ self.now.failed }
     {
         self.failed
+    }
+
+    /// The unit of a node, which is numbered by its place in the plan.
+    pub fn ecu(&self, node: usize) -> &E
+        requires goes_on { self.now.failed ≡ false }
+        requires there { node < length self.now.units }
+        ensures state { slice_get self.now.units node ≡ Some (E.state result.now self.now.shared) }
+        ensures here { E.is_in result.now self.now.shared }
+    {
+        &self.ecus[node]
     }
 
     /// What the units share.
