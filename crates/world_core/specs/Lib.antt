@@ -4,3 +4,4 @@ pub mod Courses
 pub mod Units
 pub mod Seen
 pub mod Kept
+pub mod OnBuses
