@@ -4,3 +4,6 @@ pub mod Ticks
 pub mod Buses
 pub mod Calling
 pub mod Coming
+pub mod Numbered
+pub mod BusDues
+pub mod BusEvents

@@ -5,3 +5,4 @@ pub mod Units
 pub mod Seen
 pub mod Kept
 pub mod First
+pub mod OnBuses

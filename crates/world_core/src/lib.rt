@@ -3,6 +3,7 @@
 
 mod course;
 mod event;
+mod happening;
 mod next;
 mod opening;
 mod plan;
