@@ -10,3 +10,4 @@ pub mod Framing
 pub mod Numbers
 pub mod Units
 pub mod Attached
+pub mod Planned

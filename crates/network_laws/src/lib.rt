@@ -6,7 +6,8 @@ ghost use Rattle.toml.specs.Data.{Data, Members, member};
 ghost use Rattle.document_specs.specs.Documents.{document};
 ghost use Rattle.unit_specs.specs.Description.{Description};
 ghost use Rattle.network_specs.specs.NetworkFiles.{NetworkFile, network_file_of, most_bytes};
-ghost use Rattle.network_specs.specs.Networks.{Folder, NodeParts, framed_files, network_of};
+ghost use Rattle.network_specs.specs.Networks.{Folder, NodeParts, Network, framed_files, network_of};
+ghost use Rattle.world_specs.specs.Plan.{IsPlan};
 ghost use Rattle.network_laws.specs.Ranges.{IsInRange};
 ghost use Rattle.network_laws.specs.Keys.{TellTheSame, is_read};
 ghost use Rattle.network_laws.specs.Folders.{TellAlike, without_digest, HoldTheSame, IsShort, AreShort, AreSameBytes};
@@ -16,6 +17,14 @@ ghost use Rattle.network_laws.specs.Folders.{TellAlike, without_digest, HoldTheS
 /// sender or a node that stands on it.
 pub fn an_accepted_network_file_holds_together()
     ensures { (bytes : List ℕ) (f : NetworkFile) → network_file_of bytes ≡ Ok f → IsInRange f }
+{}
+
+/// The plan of a network that is accepted, however its modules are judged, is well formed: its numbers lie in their
+/// ranges; each description is one of a unit; each node stands by each terminal on a bus that is there, on none twice;
+/// the members of a bus are exactly the nodes that stand on it; and who detects an error is one of them.
+pub fn an_accepted_plan_is_well_formed<Code, Why>()
+    ensures { (judge : Description → List ℕ → Result Code Why) (folder : Folder) (net : List ℕ) (n : Network Code)
+        → network_of judge folder net ≡ Ok n → IsPlan n.plan }
 {}
 
 /// Within the limit, two network files in which the same stands at each key that is read say the same, or are refused
