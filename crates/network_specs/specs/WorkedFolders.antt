@@ -18,7 +18,7 @@ use Rattle.network_specs.specs.Buses.{bus_at, buses_of}
 use Rattle.network_specs.specs.Nodes.{attachment_at, attachments_of, node_at, nodes_of}
 use Rattle.network_specs.specs.Scripts.{entry_at, script_of}
 use Rattle.network_specs.specs.NetworkFiles.{network_file_of, network_file_in}
-use Rattle.network_specs.specs.Networks.{File, Main, DescriptionOf, ModuleOf, Stop, InNetworkFile, InDescription, InModule, Unread, Folder, Network, is_same_file, node_parts_at, network_of}
+use Rattle.network_specs.specs.Networks.{File, DescriptionOf, Stop, InNetworkFile, InDescription, InModule, Unread, Folder, Network, is_same_file, node_parts_at, network_of}
 
 -- stands for the judgement of a module: it isn't empty
 abbrev pub some_bytes : Description → List ℕ → Result (List ℕ) ℕ
