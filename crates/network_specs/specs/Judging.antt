@@ -6,7 +6,7 @@ use Rattle.document_specs.specs.Checks.{◌>>=◌}
 use Rattle.wasm_types.specs.Modules.{NestedModule}
 use Rattle.module_specs.specs.declared.fault.Fault.{Fault}
 use Rattle.module_specs.specs.ModuleReading.{module_read}
-use Rattle.code_specs.specs.Validity.{Invalid, Verdict, validity}
+use Rattle.code_specs.specs.Validity.{Invalid, validity}
 use Rattle.code_specs.specs.declared.segment.Misfit.{Misfit}
 use Rattle.code_specs.specs.Instances.{first_misfit}
 

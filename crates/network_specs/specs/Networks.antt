@@ -1,6 +1,6 @@
 -- A folder is a network, or its first refusal, in the order in which its files are read: the network file, then for
 -- each node its description and its module. Each file is checked whole before the next is read.
-use Rattle.std.specs.Prelude.{ℕ, ◌==◌, Bool, true, false, List, [], ◌∷◌, ◌++◌, length, map, flat_map, Result, Ok, Err, if◌then◌else◌, codes}
+use Rattle.std.specs.Prelude.{ℕ, ◌==◌, Bool, true, false, List, [], ◌++◌, length, map, flat_map, Result, Ok, Err, if◌then◌else◌, codes}
 use Rattle.std.specs.Int.{to_le_bytes, w64}
 use Rattle.sha2.specs.Sha256.{sha256}
 use Rattle.bench_outside.specs.Shelf.{Contents}

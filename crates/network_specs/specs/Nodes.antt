@@ -1,5 +1,5 @@
 -- The checks of the nodes.
-use Rattle.std.specs.Prelude.{ℕ, ◌==◌, ◌||◌, not, Bool, List, [], ◌∷◌, length, position, Option, option_and_then, option_map, Result, Ok, codes, bytes_eq, nat_lt}
+use Rattle.std.specs.Prelude.{ℕ, ◌==◌, ◌||◌, not, Bool, List, [], ◌∷◌, length, position, Option, option_and_then, Result, Ok, codes, bytes_eq, nat_lt}
 use Rattle.std.specs.List.{list_any}
 use Rattle.toml.specs.Data.{Data, Members, no_members, member, as_str}
 use Rattle.document_specs.specs.Checks.{◌>>=◌, needs, needs_that, each}

@@ -1,8 +1,7 @@
 -- The plan of a network, by its file and what is known of its units.
-use Rattle.std.specs.Prelude.{ℕ, ◌+◌, ◌==◌, Bool, List, [], ◌∷◌, map, filter, Option, Some, None, option_and_then, option_map, if◌then◌else◌, bytes_eq}
-use Rattle.std.specs.List.{list_all, find}
+use Rattle.std.specs.Prelude.{ℕ, ◌+◌, ◌==◌, Bool, List, [], ◌∷◌, length, map, filter, Option, Some, None, option_and_then, option_map, if◌then◌else◌, bytes_eq}
+use Rattle.std.specs.List.{find}
 use Rattle.unit_specs.specs.Description.{Terminal}
-use Rattle.description_specs.specs.Terminals.{has_name}
 use Rattle.bus_specs.specs.Bus.{ErrorEntry, Setup}
 use Rattle.world_specs.specs.Plan.{BusPlan, NodePlan, Plan, naming_from}
 use Rattle.network_specs.specs.Buses.{Bus, Rate}
@@ -23,14 +22,11 @@ buses_of_terminals attachments [] = Some []
 buses_of_terminals attachments (t ∷ ts) =
     option_and_then (λ bus. option_map (λ buses. bus ∷ buses) (buses_of_terminals attachments ts)) (bus_of_terminal attachments t.name)
 
--- each key names a terminal
-abbrev pub name_terminals : List Terminal → List Attachment → Bool
-name_terminals terminals attachments = list_all (λ a. has_name terminals a.terminal) attachments
-
--- the bus of each terminal, where the keys are exactly the names of the terminals
+-- The bus of each terminal, where the keys are exactly the names of the terminals: as many, and each terminal has one.
+-- The keys of a table differ, and so do the names of terminals.
 abbrev pub attached_buses : List Attachment → List Terminal → Option (List ℕ)
 attached_buses attachments terminals =
-    if name_terminals terminals attachments then buses_of_terminals attachments terminals else None
+    if length attachments == length terminals then buses_of_terminals attachments terminals else None
 
 -- the entries of the script of the bus at a place, in their order
 abbrev pub entries_on : ℕ → List ScriptEntry → List ErrorEntry

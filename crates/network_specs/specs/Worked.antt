@@ -4,7 +4,6 @@ use Rattle.std.specs.Str.{is_utf8, chars}
 use Rattle.toml.specs.Data.{Data, string, integer, boolean, array, table, Items, no_items, item, Members, no_members, member}
 use Rattle.toml.proofs.OnLiterals.{toml_on_literals}
 use Rattle.document_specs.specs.Documents.{document}
-use Rattle.bus_specs.specs.Bus.{ErrorEntry}
 use Rattle.network_specs.specs.declared.field.NetworkField.TheVariants as field
 use Rattle.network_specs.specs.Settings.{Refusal, refusal, settings_of}
 use Rattle.network_specs.specs.Buses.{bus_at, buses_of}
@@ -117,7 +116,7 @@ abbrev pub all_refused : ℕ → Refusal → List (Option Refusal)
 all_refused n e = replicate n (Some e)
 
 pub resolutions : refusals (without (codes "resolution") good ∷ changed (codes "resolution") (number 0) good ∷ changed (codes "resolution") (number 1000000000001) good
-        ∷ changed (codes "resolution") (integer (negsuc 999)) good ∷ changed (codes "resolution") (string (codes "1000")) good ∷ without (codes "resolution") (without (codes "stop") good) ∷ [])
+    ∷ changed (codes "resolution") (integer (negsuc 999)) good ∷ changed (codes "resolution") (string (codes "1000")) good ∷ without (codes "resolution") (without (codes "stop") good) ∷ [])
     ≡ all_refused 6 (refusal field.Resolution 0)
 unfolding network_file_in settings_of
 resolutions = refl
@@ -141,19 +140,19 @@ abbrev pub with_buses : List Entries → Entries
 with_buses buses = changed (codes "bus") (array (rows buses)) good
 
 pub bus_arrays : refusals (without (codes "bus") good ∷ with_buses [] ∷ with_buses (slow ∷ slow ∷ slow ∷ slow ∷ slow ∷ []) ∷ changed (codes "bus") (table (members slow)) good
-        ∷ changed (codes "bus") (array (item (number 1) no_items)) good ∷ [])
+    ∷ changed (codes "bus") (array (item (number 1) no_items)) good ∷ [])
     ≡ all_refused 5 (refusal field.Bus 0)
 unfolding network_file_in settings_of buses_of
 bus_arrays = refl
 
 pub bus_names : refusals (with_buses (slow ∷ without (codes "name") fast ∷ []) ∷ with_buses (slow ∷ changed (codes "name") (string (codes "a")) fast ∷ []) ∷ with_buses (slow ∷ changed (codes "name") (string []) fast ∷ [])
-        ∷ with_buses (slow ∷ changed (codes "name") (string (codes "B")) fast ∷ []) ∷ with_buses (slow ∷ changed (codes "name") (string (replicate 33 97)) fast ∷ []) ∷ with_buses (slow ∷ changed (codes "name") (number 1) fast ∷ []) ∷ [])
+    ∷ with_buses (slow ∷ changed (codes "name") (string (codes "B")) fast ∷ []) ∷ with_buses (slow ∷ changed (codes "name") (string (replicate 33 97)) fast ∷ []) ∷ with_buses (slow ∷ changed (codes "name") (number 1) fast ∷ []) ∷ [])
     ≡ all_refused 6 (refusal field.BusName 1)
 unfolding network_file_in settings_of buses_of bus_at
 bus_names = refl
 
 pub bus_rates : refusals (with_buses (slow ∷ without (codes "rate") fast ∷ []) ∷ with_buses (slow ∷ changed (codes "rate") (number 0) fast ∷ []) ∷ with_buses (slow ∷ changed (codes "rate") (number 300) fast ∷ [])
-        ∷ with_buses (slow ∷ changed (codes "rate") (number 2000) fast ∷ []) ∷ with_buses (slow ∷ changed (codes "rate") (string (codes "250")) fast ∷ []) ∷ [])
+    ∷ with_buses (slow ∷ changed (codes "rate") (number 2000) fast ∷ []) ∷ with_buses (slow ∷ changed (codes "rate") (string (codes "250")) fast ∷ []) ∷ [])
     ≡ all_refused 5 (refusal field.BusRate 1)
 unfolding network_file_in settings_of buses_of bus_at
 bus_rates = refl
@@ -177,13 +176,13 @@ unfolding network_file_in settings_of buses_of bus_at nodes_of
 node_arrays = refl
 
 pub node_names : refusals (with_nodes (door ∷ without (codes "name") gate ∷ []) ∷ with_nodes (door ∷ changed (codes "name") (string (codes "door")) gate ∷ []) ∷ with_nodes (door ∷ changed (codes "name") (string (codes "sender")) gate ∷ [])
-        ∷ with_nodes (door ∷ changed (codes "name") (string (codes "g-1")) gate ∷ []) ∷ [])
+    ∷ with_nodes (door ∷ changed (codes "name") (string (codes "g-1")) gate ∷ []) ∷ [])
     ≡ all_refused 4 (refusal field.NodeName 1)
 unfolding network_file_in settings_of buses_of bus_at nodes_of node_at attachments_of attachment_at
 node_names = refl
 
 pub node_units : refusals (with_nodes (door ∷ without (codes "fmu") gate ∷ []) ∷ with_nodes (door ∷ changed (codes "fmu") (string []) gate ∷ []) ∷ with_nodes (door ∷ changed (codes "fmu") (string (codes "../gate")) gate ∷ [])
-        ∷ with_nodes (door ∷ changed (codes "fmu") (string (replicate 65 97)) gate ∷ []) ∷ [])
+    ∷ with_nodes (door ∷ changed (codes "fmu") (string (replicate 65 97)) gate ∷ []) ∷ [])
     ≡ all_refused 4 (refusal field.NodeFmu 1)
 unfolding network_file_in settings_of buses_of bus_at nodes_of node_at attachments_of attachment_at
 node_units = refl
@@ -192,7 +191,7 @@ abbrev pub attached : Entries → Entries
 attached terminals = with_nodes (door ∷ changed (codes "bus") (table (members terminals)) gate ∷ [])
 
 pub node_buses : refusals (with_nodes (door ∷ without (codes "bus") gate ∷ []) ∷ with_nodes (door ∷ changed (codes "bus") (string (codes "a")) gate ∷ []) ∷ attached [] ∷ attached ((codes "IN", string (codes "c")) ∷ [])
-        ∷ attached ((codes "IN", number 0) ∷ []) ∷ attached ((codes "IN", string (codes "a")) ∷ (codes "OUT", string (codes "a")) ∷ []) ∷ [])
+    ∷ attached ((codes "IN", number 0) ∷ []) ∷ attached ((codes "IN", string (codes "a")) ∷ (codes "OUT", string (codes "a")) ∷ []) ∷ [])
     ≡ all_refused 6 (refusal field.NodeBus 1)
 unfolding network_file_in settings_of buses_of bus_at nodes_of node_at attachments_of attachment_at
 node_buses = refl
@@ -209,11 +208,11 @@ abbrev pub with_error : Entries → Entries
 with_error e = with_errors (sent ∷ e ∷ [])
 
 pub errors_refused : refusals (with_error (without (codes "bus") seen) ∷ with_error (changed (codes "bus") (string (codes "c")) seen)
-        ∷ with_error (without (codes "attempt") seen) ∷ with_error (changed (codes "attempt") (number 0) seen) ∷ with_error (changed (codes "attempt") (number 4294967297) seen)
-        ∷ with_error ((codes "count", number 0) ∷ seen) ∷ with_error ((codes "count", number 4294967297) ∷ seen)
-        ∷ with_error (without (codes "kind") seen) ∷ with_error (changed (codes "kind") (number 0) seen) ∷ with_error (changed (codes "kind") (number 5) seen)
-        ∷ with_error (without (codes "by") seen) ∷ with_error (changed (codes "by") (string (codes "lamp")) seen) ∷ with_error (changed (codes "by") (string (codes "door")) seen) ∷ with_error (changed (codes "by") (number 1) seen)
-        ∷ with_error (without (codes "bit") seen) ∷ with_error (changed (codes "bit") (number 1024) seen) ∷ [])
+    ∷ with_error (without (codes "attempt") seen) ∷ with_error (changed (codes "attempt") (number 0) seen) ∷ with_error (changed (codes "attempt") (number 4294967297) seen)
+    ∷ with_error ((codes "count", number 0) ∷ seen) ∷ with_error ((codes "count", number 4294967297) ∷ seen)
+    ∷ with_error (without (codes "kind") seen) ∷ with_error (changed (codes "kind") (number 0) seen) ∷ with_error (changed (codes "kind") (number 5) seen)
+    ∷ with_error (without (codes "by") seen) ∷ with_error (changed (codes "by") (string (codes "lamp")) seen) ∷ with_error (changed (codes "by") (string (codes "door")) seen) ∷ with_error (changed (codes "by") (number 1) seen)
+    ∷ with_error (without (codes "bit") seen) ∷ with_error (changed (codes "bit") (number 1024) seen) ∷ [])
     ≡ all_refused 2 (refusal field.ErrorBus 1) ++ all_refused 3 (refusal field.ErrorAttempt 1) ++ all_refused 2 (refusal field.ErrorCount 1) ++ all_refused 3 (refusal field.ErrorKind 1)
     ++ all_refused 4 (refusal field.ErrorBy 1) ++ all_refused 2 (refusal field.ErrorBit 1)
 unfolding network_file_in settings_of buses_of bus_at nodes_of node_at attachments_of attachment_at script_of entry_at

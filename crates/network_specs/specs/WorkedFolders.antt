@@ -18,7 +18,7 @@ use Rattle.network_specs.specs.Buses.{bus_at, buses_of}
 use Rattle.network_specs.specs.Nodes.{attachment_at, attachments_of, node_at, nodes_of}
 use Rattle.network_specs.specs.Scripts.{entry_at, script_of}
 use Rattle.network_specs.specs.NetworkFiles.{network_file_of, network_file_in}
-use Rattle.network_specs.specs.Networks.{File, Main, DescriptionOf, ModuleOf, Stop, InNetworkFile, InDescription, InModule, Unread, Folder, Network, is_same_file, node_parts_at, network_of}
+use Rattle.network_specs.specs.Networks.{File, DescriptionOf, Stop, InNetworkFile, InDescription, InModule, Unread, Folder, Network, is_same_file, node_parts_at, network_of}
 
 -- stands for the judgement of a module: it isn't empty
 abbrev pub some_bytes : Description → List ℕ → Result (List ℕ) ℕ
@@ -73,6 +73,15 @@ module_first = refl
 pub keys_second : network_of some_bytes (whole (net_text five (codes "LIN")) (unit_text with_events) (1 ∷ [])) (codes "n") ≡ Err (InNetworkFile (refusal NodeBus 1))
 unfolding toml_on_literals is_utf8 chars document description_of description_in head_of clock_at binary_at terminal_at clocks_of binaries_of terminals_of network_file_of network_file_in settings_of buses_of bus_at nodes_of node_at attachments_of attachment_at script_of entry_at network_of node_parts_at
 keys_second = refl
+
+-- a key more than there are terminals
+abbrev pub two_keys : List ℕ
+two_keys = line (codes "resolution = 1000") ++ line five ++ line (codes "bus = [{ name = \"a\", rate = 500 }, { name = \"b\", rate = 500 }]")
+    ++ line (codes "node = [{ name = \"x\", fmu = \"e\", bus = { CAN = \"a\", LIN = \"b\" } }]")
+
+pub key_too_many : network_of some_bytes (whole two_keys (unit_text with_events) (1 ∷ [])) (codes "n") ≡ Err (InNetworkFile (refusal NodeBus 0))
+unfolding toml_on_literals is_utf8 chars document description_of description_in head_of clock_at binary_at terminal_at clocks_of binaries_of terminals_of network_file_of network_file_in settings_of buses_of bus_at nodes_of node_at attachments_of attachment_at script_of entry_at network_of node_parts_at
+key_too_many = refl
 
 -- a failed read before every rule on its bytes
 pub unread : network_of some_bytes (record { held = files (net_text five (codes "LIN")) (unit_text with_events) (1 ∷ []); fails = is_same_file (DescriptionOf 1) }) (codes "n") ≡ Err (Unread (DescriptionOf 1))

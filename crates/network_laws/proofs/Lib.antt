@@ -1,0 +1,13 @@
+pub mod Rows
+pub mod SameFiles
+pub mod OneMoreKey
+pub mod AlikeFolders
+pub mod Renamed
+pub mod InRange
+pub mod NodesInRange
+pub mod ScriptInRange
+pub mod Framing
+pub mod Numbers
+pub mod Units
+pub mod Attached
+pub mod Planned
