@@ -8,3 +8,6 @@ mod words;
 
 pub use memory::Memory;
 pub use pool::Pool;
+
+#[cfg(test)]
+mod tests;
