@@ -1,0 +1,6 @@
+pub mod Lists
+pub mod Splits
+pub mod Effects
+pub mod States
+pub mod Branching
+pub mod Following

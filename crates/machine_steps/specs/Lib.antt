@@ -1,0 +1,4 @@
+-- Flat code, step by step.
+pub mod Steps
+pub mod Nesting
+pub mod Answers
