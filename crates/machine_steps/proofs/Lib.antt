@@ -4,3 +4,4 @@ pub mod Effects
 pub mod States
 pub mod Branching
 pub mod Following
+pub mod Measure
