@@ -5,3 +5,5 @@ pub mod States
 pub mod Branching
 pub mod Following
 pub mod Measure
+pub mod Spelled
+pub mod Whole

@@ -2,3 +2,5 @@
 pub mod Steps
 pub mod Nesting
 pub mod Answers
+pub mod Modules
+pub mod Rooms
