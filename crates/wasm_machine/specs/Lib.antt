@@ -1,0 +1,2 @@
+-- What contracts of the machine say.
+pub mod Seen
