@@ -7,7 +7,7 @@ ghost use Rattle.code_specs.specs.Execution.{Stuck};
 ghost use Rattle.machine_steps.specs.Steps.{Stop, cut, block_label};
 ghost use Rattle.machine_steps.specs.Modules.{IsSmall};
 ghost use Rattle.machine_steps.specs.Rooms.{HasRoom};
-ghost use Rattle.wasm_machine.specs.Seen.{values_of, seen, returning_in, calling_in, branching_in, closing_in, choosing_in, opening_in};
+ghost use Rattle.wasm_machine.specs.Seen.{values_of, seen, no_store, returning_in, calling_in, branching_in, closing_in, choosing_in, opening_in};
 
 use crate::room::Room;
 use code_specs::TrapKind;
@@ -196,4 +196,138 @@ fn drop_labels(labels: &mut Labels, count: usize)
     ensures { labels.new ≡ drop count labels.old }
 {
     labels.cut(labels.len() - count);
+}
+
+impl Stack {
+    /// Takes the room, for 256 frames.
+    pub fn new(alloc: Global) -> Result<Stack, AllocError>
+        ensures { IfOk result (λ k. k.values ≡ []) }
+    {
+        let no_label = Label {
+            target: 0,
+            height: 0,
+            carries: None,
+            again: false,
+        };
+        let no_frame = Frame {
+            func: 0,
+            position: 0,
+            base: 0,
+            depth: 0,
+        };
+        Ok(Stack {
+            func: 0,
+            position: 0,
+            base: 0,
+            depth: 0,
+            values: Room::new(alloc, 0)?,
+            labels: Room::new(alloc, no_label)?,
+            callers: Room::new(alloc, no_frame)?,
+        })
+    }
+
+    /// The function returns.
+    #[inline(always)]
+    pub(crate) fn leave(&mut self, module: &Module) -> Turn
+        requires fine { returning_in module.now self.old no_store 0 ≢ Stop Stuck }
+        requires room { HasRoom self.old.depth self.old.values self.old.labels self.old.callers }
+        requires small { IsSmall module.now }
+        ensures { (s : Store) (fuel : ℕ) → returning_in module.now self.old s fuel ≡ seen result self.new s fuel }
+    {
+        let ty = type_at(module, func_at(module, self.func).ty);
+        let value = take_result(&mut self.values, ty);
+        if self.callers.len() == 0 {
+            return Turn::Returned(value);
+        }
+        let frame = self.callers.pop();
+        cut_to(&mut self.values, self.base);
+        put_back(&mut self.values, value);
+        drop_labels(&mut self.labels, self.depth);
+        self.func = frame.func;
+        self.position = frame.position;
+        self.base = frame.base;
+        self.depth = frame.depth;
+        Turn::Go
+    }
+
+    /// A branch.
+    #[inline(always)]
+    pub(crate) fn branch(&mut self, module: &Module, label: u32) -> Turn
+        requires fine { branching_in module.now label self.old no_store 0 ≢ Stop Stuck }
+        requires room { HasRoom self.old.depth self.old.values self.old.labels self.old.callers }
+        requires small { IsSmall module.now }
+        ensures { (s : Store) (fuel : ℕ) → branching_in module.now label self.old s fuel ≡ seen result self.new s fuel }
+    {
+        let inside = label as usize;
+        if inside >= self.depth {
+            return self.leave(module);
+        }
+        let label = label_from_top(&self.labels, inside);
+        let value = take_carried(&mut self.values, label.carries);
+        cut_to(&mut self.values, label.height);
+        put_back(&mut self.values, value);
+        let closed = if label.again { inside } else { inside + 1 };
+        drop_labels(&mut self.labels, closed);
+        self.position = label.target;
+        self.depth -= closed;
+        Turn::Go
+    }
+
+    /// A list ends, and this position comes next.
+    #[inline(always)]
+    pub(crate) fn close(&mut self, module: &Module, position: usize) -> Turn
+        requires fine { closing_in module.now position self.old no_store 0 ≢ Stop Stuck }
+        requires room { HasRoom self.old.depth self.old.values self.old.labels self.old.callers }
+        requires small { IsSmall module.now }
+        ensures { (s : Store) (fuel : ℕ) → closing_in module.now position self.old s fuel ≡ seen result self.new s fuel }
+    {
+        if self.depth == 0 {
+            return self.leave(module);
+        }
+        drop_labels(&mut self.labels, 1);
+        self.position = position;
+        self.depth -= 1;
+        Turn::Go
+    }
+
+    /// A list begins at this position.
+    #[inline(always)]
+    pub(crate) fn enter(&mut self, position: usize, label: Label) -> Turn
+        requires labels { length self.old.labels ≤ 262144 }
+        requires depth { self.old.depth ≤ length self.old.labels }
+        ensures { (s : Store) (fuel : ℕ) → opening_in position label self.old s fuel ≡ seen result self.new s fuel }
+    {
+        self.labels.push(label);
+        self.position = position;
+        self.depth += 1;
+        Turn::Go
+    }
+
+    /// A call.
+    pub(crate) fn call(&mut self, module: &Module, index: u32) -> Turn
+        requires fine { calling_in module.now index self.old no_store 0 ≢ Stop Stuck }
+        requires position { self.old.position + 1 < 2 ^ 64 }
+        requires room { HasRoom self.old.depth self.old.values self.old.labels self.old.callers }
+        requires small { IsSmall module.now }
+        ensures { (s : Store) (fuel : ℕ) → calling_in module.now index self.old s fuel ≡ seen result self.new s fuel }
+    {
+        if self.callers.len() >= 255 {
+            return Turn::Trapped(TrapKind::Depth);
+        }
+        let func = func_at(module, index);
+        let params = type_at(module, func.ty).params.as_slice().len();
+        let base = self.values.len() - params;
+        push_zeros(&mut self.values, func.locals.as_slice().len());
+        self.callers.push(Frame {
+            func: self.func,
+            position: self.position + 1,
+            base: self.base,
+            depth: self.depth,
+        });
+        self.func = index;
+        self.position = 0;
+        self.base = base;
+        self.depth = 0;
+        Turn::Go
+    }
 }
