@@ -76,12 +76,12 @@ impl Memory {
         ensures value { result ≡ option_map number_of_bytes (bytes_at (bytes_in pool.now self.now) (base + offset) width) }
         ensures fits { IfSome result (λ n. n < 2 ^ (8 * width)) }
     {
-        let at = base as usize + offset as usize;
+        let address = base as usize + offset as usize;
         let table = pool.table(self.table);
-        if at + usize::from(width) > table.len() {
+        if address + usize::from(width) > table.len() {
             return None;
         }
-        Some(table.number(at, width))
+        Some(table.number(address, width))
     }
 
     /// Puts the lowest bytes of a number, as many as the width (1, 2, 4 or 8), in the place of those from

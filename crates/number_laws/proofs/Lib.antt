@@ -1,0 +1,4 @@
+mod Signed
+mod Divided
+mod Turned
+mod Counted
