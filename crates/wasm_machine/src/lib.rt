@@ -2,7 +2,11 @@
 //! that is taken beforehand.
 #![tactic(auto)]
 
+mod access;
+mod instance;
+mod numeric;
 mod room;
 mod stack;
 
+pub use instance::Instance;
 pub use stack::Stack;

@@ -5,7 +5,7 @@ ghost use Rattle.code_specs.specs.Signatures.{types_of};
 ghost use Rattle.code_specs.specs.Stores.{Store};
 ghost use Rattle.code_specs.specs.Execution.{Stuck};
 ghost use Rattle.machine_steps.specs.Steps.{Stop, cut, block_label};
-ghost use Rattle.machine_steps.specs.Modules.{IsSmall};
+ghost use Rattle.machine_steps.specs.Modules.{IsReady};
 ghost use Rattle.machine_steps.specs.Rooms.{HasRoom};
 ghost use Rattle.wasm_machine.specs.Seen.{values_of, seen, no_store, returning_in, calling_in, branching_in, closing_in, choosing_in, opening_in};
 
@@ -231,7 +231,7 @@ impl Stack {
     pub(crate) fn leave(&mut self, module: &Module) -> Turn
         requires fine { returning_in module.now self.old no_store 0 ≢ Stop Stuck }
         requires room { HasRoom self.old.depth self.old.values self.old.labels self.old.callers }
-        requires small { IsSmall module.now }
+        requires ready { IsReady module.now }
         ensures { (s : Store) (fuel : ℕ) → returning_in module.now self.old s fuel ≡ seen result self.new s fuel }
     {
         let ty = type_at(module, func_at(module, self.func).ty);
@@ -255,7 +255,7 @@ impl Stack {
     pub(crate) fn branch(&mut self, module: &Module, label: u32) -> Turn
         requires fine { branching_in module.now label self.old no_store 0 ≢ Stop Stuck }
         requires room { HasRoom self.old.depth self.old.values self.old.labels self.old.callers }
-        requires small { IsSmall module.now }
+        requires ready { IsReady module.now }
         ensures { (s : Store) (fuel : ℕ) → branching_in module.now label self.old s fuel ≡ seen result self.new s fuel }
     {
         let inside = label as usize;
@@ -278,7 +278,7 @@ impl Stack {
     pub(crate) fn close(&mut self, module: &Module, position: usize) -> Turn
         requires fine { closing_in module.now position self.old no_store 0 ≢ Stop Stuck }
         requires room { HasRoom self.old.depth self.old.values self.old.labels self.old.callers }
-        requires small { IsSmall module.now }
+        requires ready { IsReady module.now }
         ensures { (s : Store) (fuel : ℕ) → closing_in module.now position self.old s fuel ≡ seen result self.new s fuel }
     {
         if self.depth == 0 {
@@ -308,7 +308,7 @@ impl Stack {
         requires fine { calling_in module.now index self.old no_store 0 ≢ Stop Stuck }
         requires position { self.old.position + 1 < 2 ^ 64 }
         requires room { HasRoom self.old.depth self.old.values self.old.labels self.old.callers }
-        requires small { IsSmall module.now }
+        requires ready { IsReady module.now }
         ensures { (s : Store) (fuel : ℕ) → calling_in module.now index self.old s fuel ≡ seen result self.new s fuel }
     {
         if self.callers.len() >= 255 {
