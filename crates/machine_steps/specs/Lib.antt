@@ -1,0 +1,6 @@
+-- Flat code, step by step.
+pub mod Steps
+pub mod Nesting
+pub mod Answers
+pub mod Modules
+pub mod Rooms

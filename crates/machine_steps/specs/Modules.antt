@@ -1,0 +1,38 @@
+-- What a machine relies on of a module.
+use Rattle.std.specs.Prelude.{◌≡◌, ℕ, ◌≤◌, true, Option, Some, length, slice_get}
+use Rattle.std.specs.List.{AllByRecursion}
+use Rattle.wasm_types.specs.declared.instr.Instr.{Instr}
+use Rattle.wasm_types.specs.declared.instr.Instr.TheVariants.{Numeric, Access}
+use Rattle.wasm_types.specs.Spellable.{is_numeric_op, is_access_op}
+use Rattle.wasm_types.specs.declared.module.FuncType.{FuncType}
+use Rattle.wasm_types.specs.declared.module.Func.{Func}
+use Rattle.wasm_types.specs.declared.module.Limits.{Limits}
+use Rattle.wasm_types.specs.declared.module.Module.{Module}
+use Rattle.wasm_types.specs.Modules.{NestedFunc, NestedModule}
+use Rattle.module_specs.specs.CodeSpelling.{most_locals}
+use Rattle.module_specs.specs.ModuleSpelling.{most_pages, most_entries}
+use Rattle.code_specs.specs.Values.{most_slots}
+use Rattle.machine_steps.specs.Nesting.{Nests}
+
+-- a numeric instruction and an access have an opcode of theirs
+abbrev pub HasOpcode : Instr → Type 0
+HasOpcode (Numeric op) = is_numeric_op op ≡ true
+HasOpcode (Access op align offset) = is_access_op op ≡ true
+HasOpcode other = Unit {0}
+
+-- no function has more locals than a frame has slots, no type has more than one result, and opcodes are those of instructions
+pub record IsReady (fm : Module) : Type 0 where
+  pub locals : (i : ℕ) (f : Func) → slice_get fm.funcs i ≡ Some f → length f.locals ≤ most_slots
+  pub results : (i : ℕ) (t : FuncType) → slice_get fm.types i ≡ Some t → length t.results ≤ 1
+  pub opcodes : (i : ℕ) (f : Func) → slice_get fm.funcs i ≡ Some f → (p : ℕ) (x : Instr) → slice_get f.body p ≡ Some x → HasOpcode x
+
+-- a function as files have them: its lists nest so deep at most, and it has so many locals at most
+pub record FuncFits (f : NestedFunc) : Type 0 where
+  pub nests : Nests 0 f.code
+  pub locals : length f.locals ≤ most_locals
+
+-- so is each function, and no table and no memory begins with more than files may have
+pub record HasLimits (m : NestedModule) : Type 0 where
+  pub funcs : AllByRecursion FuncFits m.funcs
+  pub tables : AllByRecursion (λ (l : Limits). l.min ≤ most_entries) m.tables
+  pub memories : AllByRecursion (λ (l : Limits). l.min ≤ most_pages) m.memories

@@ -1,0 +1,5 @@
+mod Rooms
+mod Calls
+mod Shapes
+mod Numbers
+mod Signs

@@ -1,0 +1,28 @@
+-- Instances of a module: what they hold, and what a step leaves of them.
+use Rattle.std.specs.Prelude.{◌≡◌, ℕ, ◌≤◌, List, Option, length}
+use Rattle.wasm_types.specs.declared.module.Module.{Module}
+use Rattle.wasm_types.specs.Back.{nested_module}
+use Rattle.code_specs.specs.Stores.{Store, greatest_pages}
+use Rattle.code_specs.specs.Instances.{table_of}
+use Rattle.wasm_memory.specs.Pools.{Tables, Extent, bytes_in, IsThere, KeepsOthers, KeepsUnshared}
+use Rattle.wasm_machine.specs.declared.instance.Instance.{Instance}
+
+-- the bytes and globals of an instance, whose memory lies in this pool
+abbrev pub store_in : Tables → Instance → Store
+store_in pool i = record { bytes = bytes_in pool i.memory; globals = i.globals.items }
+
+-- the instance was made from this module
+pub record IsMadeFrom (m : Module) (i : Instance) : Type 0 where
+  pub within : i.memory.pages ≤ i.memory.greatest
+  pub greatest : i.memory.greatest ≡ greatest_pages (nested_module m)
+  pub globals : length i.globals.items ≡ length m.globals
+  pub table : i.table.items ≡ table_of (nested_module m)
+
+-- Its table is still there, with the size of its memory, and it is still made from the module; every other table of the
+-- pool is as it was, and no page is shared that wasn't.
+pub record Leaves (m : Module) (pool new_pool : Tables) (i new : Instance) : Type 0 where
+  pub made : IsMadeFrom m new
+  pub there : IsThere new_pool new.memory
+  pub table : new.memory.table ≡ i.memory.table
+  pub others : KeepsOthers pool new_pool i.memory.table
+  pub unshared : KeepsUnshared pool new_pool

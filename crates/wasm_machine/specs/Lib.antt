@@ -1,0 +1,4 @@
+-- What contracts of the machine say.
+pub mod Seen
+pub mod Opcodes
+pub mod Instances

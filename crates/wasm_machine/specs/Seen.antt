@@ -1,0 +1,46 @@
+-- The steps of the machine over its own stack.
+use Rattle.std.specs.Prelude.{ℕ, suc, ◌+◌, List, [], ◌∷◌, Option, Some, None}
+use Rattle.wasm_types.specs.declared.instr.ValType.{ValType}
+use Rattle.wasm_types.specs.declared.module.Module.{Module}
+use Rattle.code_specs.specs.Stores.{Store}
+use Rattle.code_specs.specs.Execution.{Returned, Trapped, Spent}
+use Rattle.machine_steps.specs.declared.frame.Label.{Label}
+use Rattle.machine_steps.specs.Steps.{Step, Go, Stop, returning, calling, branching, closing, choosing}
+use Rattle.wasm_machine.specs.declared.stack.Stack.{Stack}
+use Rattle.wasm_machine.specs.declared.stack.Turn.{Turn}
+use Rattle.wasm_machine.specs.declared.stack.Turn.TheVariants as turn
+
+-- none or one
+abbrev pub values_of : Option ℕ → List ℕ
+values_of None = []
+values_of (Some n) = n ∷ []
+
+-- the step that a turn of the machine is
+abbrev pub seen : Turn → Stack → Store → (fuel : ℕ) → Step
+seen turn.Go k s fuel = Go k.func k.position k.base k.depth k.values k.labels k.callers s fuel
+seen (turn.Returned v) k s fuel = Stop (Returned (values_of v) s fuel)
+seen (turn.Trapped kind) k s fuel = Stop (Trapped kind s fuel)
+seen turn.Spent k s fuel = Stop (Spent s)
+
+abbrev pub returning_in : Module → Stack → Store → (fuel : ℕ) → Step
+returning_in fm k s fuel = returning fm k.func k.base k.depth k.values k.labels k.callers s fuel
+
+abbrev pub calling_in : Module → (index : ℕ) → Stack → Store → (fuel : ℕ) → Step
+calling_in fm index k s fuel = calling fm index k.func k.position k.base k.depth k.values k.labels k.callers s fuel
+
+abbrev pub branching_in : Module → (label : ℕ) → Stack → Store → (fuel : ℕ) → Step
+branching_in fm label k s fuel = branching fm label k.func k.base k.depth k.values k.labels k.callers s fuel
+
+abbrev pub closing_in : Module → (position : ℕ) → Stack → Store → (fuel : ℕ) → Step
+closing_in fm position k s fuel = closing fm k.func position k.base k.depth k.values k.labels k.callers s fuel
+
+abbrev pub choosing_in : Option ValType → Option ℕ → (end : ℕ) → Stack → Store → (fuel : ℕ) → Step
+choosing_in r q end k s fuel = choosing r q end k.func k.position k.base k.depth k.values k.labels k.callers s fuel
+
+-- one more list is open, and this position comes next
+abbrev pub opening_in : (position : ℕ) → Label → Stack → Store → (fuel : ℕ) → Step
+opening_in position l k s fuel = Go k.func position k.base (k.depth + 1) k.values (l ∷ k.labels) k.callers s fuel
+
+-- The store of no module. What a step does to the stack alone, it does over every store: its conditions are asked over this.
+abbrev pub no_store : Store
+no_store = record { bytes = []; globals = [] }

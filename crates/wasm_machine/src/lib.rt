@@ -1,0 +1,12 @@
+//! The machine: code of checked modules runs as WebAssembly Core 1.0 says, each instruction for a unit of fuel, in room
+//! that is taken beforehand.
+#![tactic(auto)]
+
+mod access;
+mod instance;
+mod numeric;
+mod room;
+mod stack;
+
+pub use instance::Instance;
+pub use stack::Stack;
