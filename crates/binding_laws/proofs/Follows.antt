@@ -1,5 +1,5 @@
 -- What holds of pieces that follow each other.
-use Rattle.std.specs.Prelude.{◌≡◌, ℕ, List, Bool, true, false, Option, None, Some, Result, Ok, Err, refl}
+use Rattle.std.specs.Prelude.{◌≡◌, ℕ, List, Bool, true, false, Option, None, Some, Result, Ok, Err, cond, refl}
 use Rattle.fmi_states.specs.declared.reply.Broken.{Broken}
 use Rattle.binding_specs.specs.Pieces.{Work, Piece, follow, wanted}
 
@@ -33,3 +33,8 @@ pub wanted_leads : {A : Type 0} (P : A → Work → Type 0) (why : Broken) (o : 
     → ((x : A) → o ≡ Some x → P x w) → Leads P (wanted why o w).0 (wanted why o w).1
 wanted_leads P why None w h = tt
 wanted_leads P why (Some x) w h = h x refl
+
+-- one of two, by a test
+pub tested : {A : Type 0} (P : A → Type 0) (b : Bool) (x y : A) → (b ≡ true → P x) → (b ≡ false → P y) → P (cond b x y)
+tested P true x y f g = f refl
+tested P false x y f g = g refl

@@ -1,2 +1,5 @@
 pub mod Follows
 pub mod Sound
+pub mod Kept
+pub mod Steady
+pub mod Counts
