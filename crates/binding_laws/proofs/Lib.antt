@@ -3,3 +3,4 @@ pub mod Sound
 pub mod Kept
 pub mod Steady
 pub mod Counts
+pub mod Bound

@@ -4,10 +4,11 @@ use Rattle.fmi_states.specs.declared.call.Call.{Call}
 use Rattle.fmi_states.specs.declared.call.Call.TheVariants as call
 use Rattle.fmi_states.specs.declared.reply.Reply.{Reply}
 use Rattle.fmi_states.specs.declared.reply.Reply.TheVariants as reply
+use Rattle.wasm_types.specs.declared.module.Export.{Export}
 use Rattle.wasm_types.specs.Modules.{NestedModule}
 use Rattle.code_specs.specs.Signatures.{Function as TypedFunction, function_at}
 use Rattle.binding_specs.specs.declared.function.Function.{Function}
-use Rattle.binding_specs.specs.Exports.{index_of, type_of}
+use Rattle.binding_specs.specs.Exports.{Row, export_named, is_item, index_of, type_of}
 use Rattle.binding_specs.specs.Guests.{Guest, area_size}
 
 -- the bytes of a binary output, and none in a reply of another kind
@@ -31,6 +32,12 @@ most_functions other = 1
 -- its area lies in its memory
 abbrev pub HasArea : Guest → Type 0
 HasArea g = g.area + area_size g.description ≤ length g.store.bytes
+
+-- a row that the module has
+pub record Has (m : NestedModule) (r : Row) : Type 0 where
+  pub export : Export
+  pub named : export_named r.name m.exports ≡ Some export
+  pub is : is_item m export r.item ≡ true
 
 -- a function of the module, with its index and the type that is asked for
 pub record IsThere (m : NestedModule) (f : Function) : Type 0 where

@@ -1,9 +1,11 @@
 //! What holds of every guest's answers: each law is the contract of a call that does nothing.
 #![tactic(auto)]
 
+mod modules;
 mod calls;
 mod replies;
 
+pub use modules::{functions_of_a_unit_are_never_stuck, modules_of_units_have_all_functions};
 pub use calls::{
     a_call_changes_nothing_else, each_function_has_a_budget_of_its_own,
     the_area_stays_in_the_memory,
