@@ -1,9 +1,10 @@
 //! The iterations in Event Mode.
 ghost use Rattle.std.specs.Prelude.{◌≡◌, ◌<◌, ◌≤◌, [], OnOk, length};
 ghost use Rattle.fmi_states.specs.declared.phase.Phase.TheVariants.{Event};
+ghost use Rattle.fmi_states.specs.Reply.{bytes_in};
 ghost use Rattle.fmi_states.specs.Unit.{StaysApart};
 ghost use Rattle.session_specs.specs.Sequence.{in_order};
-ghost use Rattle.session_specs.specs.Replies.{ticks_by, bytes_in, wish_of};
+ghost use Rattle.session_specs.specs.Replies.{ticks_by, wish_of};
 ghost use Rattle.session_specs.specs.Session.{emission_of, iteration, iteration_of, transmitted, iterations};
 ghost use Rattle.ecu_session.specs.Words.{wish_word};
 ghost use Rattle.ecu_session.specs.Pieces.{ComesTo, UnlessMemory};

@@ -1,7 +1,7 @@
 //! The trait of a unit over a value that it shares with others.
 ghost use Rattle.std.specs.Prelude.{◌≡◌, ◌≢◌, ℕ, List, Option, None, IsTrue, IfOk, OnOk};
 ghost use Rattle.fmi_states.specs.Phase.{is_permitted, next_phase};
-ghost use Rattle.fmi_states.specs.Reply.{is_suitable};
+ghost use Rattle.fmi_states.specs.Reply.{is_suitable, bytes_in, AreBytes};
 ghost use Rattle.fmi_states.specs.Parts.{Among, Spares, Shares};
 ghost use Rattle.fmi_states.specs.declared.phase.Phase.{Phase};
 ghost use Rattle.fmi_states.specs.declared.call.Call.{Call};
@@ -85,4 +85,7 @@ pub trait Ecu: Drop {
     /// The reply to a permitted call suits it.
     ghost replies_suit: { (s : Self.State) (c : Call) → IsTrue (is_permitted (phase_of s) c)
         → IsTrue (is_suitable c (answer s c).0) };
+
+    /// What a call is replied with are bytes.
+    ghost replies_are_bytes: { (s : Self.State) (c : Call) → AreBytes (bytes_in (answer s c).0) };
 }

@@ -57,7 +57,7 @@ impl Ecu for ListEcu {
     ghost use Rattle.std.specs.Prelude.{◌≡◌, [], None, refl, IsOk, IfOk, IsTrue};
     ghost use Rattle.fmi_states.specs.Phase.{next_phase, is_permitted};
     ghost use Rattle.fmi_states.specs.Reply.{is_suitable};
-    ghost use Rattle.fmi_states.specs.ListEcu.{list_answer, reply_from_suits};
+    ghost use Rattle.fmi_states.specs.ListEcu.{list_answer, reply_from_suits, reply_from_bytes};
 
     type Shared = ();
 
@@ -101,4 +101,6 @@ impl Ecu for ListEcu {
     ghost moves = { λ s c permitted. refl };
 
     ghost replies_suit = { λ s c permitted. reply_from_suits c s.replies };
+
+    ghost replies_are_bytes = { λ s c. reply_from_bytes c s.replies };
 }

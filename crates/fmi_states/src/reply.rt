@@ -1,6 +1,6 @@
 //! The replies of a unit, and which reply suits which call.
-ghost use Rattle.std.specs.Prelude.{◌≡◌};
-ghost use Rattle.fmi_states.specs.Reply.{status_of, is_suitable};
+ghost use Rattle.std.specs.Prelude.{◌≡◌, true};
+ghost use Rattle.fmi_states.specs.Reply.{status_of, are_bytes, is_suitable};
 
 use crate::call::Call;
 use crate::status::FmiStatus;
@@ -73,6 +73,11 @@ impl Reply {
     }
 }
 
+// Whatever a slice of bytes holds are bytes.
+fn bytes_hold(bytes: &[u8])
+    ensures { are_bytes bytes.now ≡ true }
+{}
+
 /// Whether the reply is of the call's kind.
 pub fn suits(call: &Call, reply: &Reply) -> bool
     ensures { result ≡ is_suitable call.now reply.now }
@@ -80,7 +85,11 @@ pub fn suits(call: &Call, reply: &Reply) -> bool
     match (call, reply) {
         (_, Reply::Broken(_)) => true,
         (Call::GetClock(_), _) => matches!(reply, Reply::Clock(_, _)),
-        (Call::GetBinary(_), _) => matches!(reply, Reply::Data(_, _)),
+        (Call::GetBinary(_), Reply::Data(_, bytes)) => {
+            bytes_hold(bytes.as_slice());
+            true
+        }
+        (Call::GetBinary(_), _) => false,
         (Call::Update, _) => matches!(reply, Reply::Updated(_, _, _)),
         (Call::GetInterval(_), _) => matches!(reply, Reply::Interval { .. }),
         (_, _) => matches!(reply, Reply::Plain(_)),

@@ -77,4 +77,6 @@ impl<E: Ecu> Ecu for NotingUnit<E> {
     ghost moves = { λ n c permitted. E.moves n.state c permitted };
 
     ghost replies_suit = { λ n c permitted. E.replies_suit n.state c permitted };
+
+    ghost replies_are_bytes = { λ n c. E.replies_are_bytes n.state c };
 }

@@ -61,10 +61,6 @@ abbrev pub ticks_by : Reply → Bool
 ticks_by (reply.Clock status ticks) = ticks
 ticks_by other = false
 
-abbrev pub bytes_in : Reply → List ℕ
-bytes_in (reply.Data status bytes) = bytes
-bytes_in other = []
-
 -- What an update asks for: the end of the simulation, another update, or neither.
 pub data Wish : Type 0 where
   AnotherUpdate NoUpdate TheEnd : Wish

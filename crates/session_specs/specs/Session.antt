@@ -16,11 +16,12 @@ use Rattle.fmi_states.specs.declared.phase.Phase.TheVariants.{Fresh, Event, Step
 use Rattle.fmi_states.specs.declared.call.Call.{Call}
 use Rattle.fmi_states.specs.declared.call.Call.TheVariants as call
 use Rattle.fmi_states.specs.declared.reply.Reply.{Reply}
+use Rattle.fmi_states.specs.Reply.{bytes_in}
 use Rattle.unit_specs.specs.Description.{Description, Terminal}
 use Rattle.log_specs.specs.Line.{Cause, Loop, BadInterval}
 use Rattle.session_specs.specs.Outcome.{SessionIn, Emission, DueChange, Keep, End, Live, Over, Down, SessionOut}
 use Rattle.session_specs.specs.Sequence.{◌>>=◌, in_order}
-use Rattle.session_specs.specs.Replies.{fault_of, is_freed_behind, ticks_by, bytes_in, Wish, AnotherUpdate, NoUpdate, TheEnd, wish_of, change_of}
+use Rattle.session_specs.specs.Replies.{fault_of, is_freed_behind, ticks_by, Wish, AnotherUpdate, NoUpdate, TheEnd, wish_of, change_of}
 
 -- no clock's due moment changes
 abbrev pub all_kept : List ℕ → List DueChange

@@ -27,7 +27,8 @@ use Rattle.world_specs.specs.Next.{What, Finish, Return, Sessions, Start, Event,
 use Rattle.world_specs.specs.Sessions.{Turn, turn_of, turns, is_new, takes_part, session_from, session_of, given_to, node_behind, node_after, standing_after}
 use Rattle.world_specs.specs.Step.{outcome_of, world_behind}
 use Rattle.world_specs.specs.Network.{network}
-use Rattle.world_specs.specs.Fits.{UnitsFit, AreBytes, LastBy, LastBefore, is_live, is_live_node, AllBefore, EndsBehind, MailBehind, IsJoined, IsAttached, Fits}
+use Rattle.fmi_states.specs.Reply.{AreBytes}
+use Rattle.world_specs.specs.Fits.{UnitsFit, LastBy, LastBefore, is_live, is_live_node, AllBefore, EndsBehind, MailBehind, IsJoined, IsAttached, Fits}
 use Rattle.world_laws.specs.Words.{NothingWaits}
 use Rattle.world_laws.proofs.Lists.{map-map, map-same, all-map, all-more}
 use Rattle.world_laws.proofs.Order.{no-earlier, strictly-later, next-unbeaten}

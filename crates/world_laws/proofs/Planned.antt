@@ -6,6 +6,7 @@ use Rattle.fmi_states.specs.declared.phase.Phase.{Phase}
 use Rattle.fmi_states.specs.declared.call.Call.{Call}
 use Rattle.fmi_states.specs.declared.call.Call.TheVariants as call
 use Rattle.fmi_states.specs.declared.reply.Reply.{Reply}
+use Rattle.fmi_states.specs.Reply.{bytes_in, AreBytes}
 use Rattle.fmi_states.specs.declared.reply.Reply.TheVariants as reply
 use Rattle.fmi_states.specs.declared.reply.Qualifier.{Qualifier}
 use Rattle.fmi_states.specs.declared.reply.Qualifier.TheVariants as qualifier
@@ -13,12 +14,12 @@ use Rattle.unit_specs.specs.Description.{Description, Terminal}
 use Rattle.log_specs.specs.Line.{Cause}
 use Rattle.session_specs.specs.Outcome.{SessionIn, SessionOut, Emission, DueChange, Keep, At}
 use Rattle.session_specs.specs.Sequence.{continue_with, in_order}
-use Rattle.session_specs.specs.Replies.{fault_of, ticks_by, bytes_in, Wish, AnotherUpdate, NoUpdate, TheEnd, is_interval, interval_from, scaled_interval, change_by, change_of}
+use Rattle.session_specs.specs.Replies.{fault_of, ticks_by, Wish, AnotherUpdate, NoUpdate, TheEnd, is_interval, interval_from, scaled_interval, change_by, change_of}
 use Rattle.session_specs.specs.Session.{with_change, Iteration, effect_by_fault, effect_of, entry_calls, input_calls, emission_of, iteration_of, next_iteration, iterations, interval_call, termination_calls, exit_calls, all_calls, outcome_of, is_fresh, session_of}
 use Rattle.bus_sound.proofs.Among.{Among, among-push_cases}
 use Rattle.bus_sound.proofs.Lists.{All-each}
 use Rattle.world_specs.specs.Plan.{Plan, description_of, session_in, units_of}
-use Rattle.world_specs.specs.Fits.{IsSetBehind, AreBytes, UnitsFit}
+use Rattle.world_specs.specs.Fits.{IsSetBehind, UnitsFit}
 use Rattle.world_laws.specs.Words.{AnswersBytes}
 
 -- what a piece comes to, where it comes to something

@@ -18,7 +18,7 @@ use Rattle.bus_sound.proofs.Quiet.{enter-sound, take_inbox-sound}
 use Rattle.bus_sound.proofs.Left.{leave-sound}
 use Rattle.bus_sound.proofs.Submitted.{submit-sound, submission_of-fits}
 use Rattle.world_specs.specs.Sessions.{Turn, is_new, items_at, items_on, submission_step, emission_step}
-use Rattle.world_specs.specs.Fits.{AreBytes}
+use Rattle.fmi_states.specs.Reply.{AreBytes}
 use Rattle.world_laws.proofs.Lists.{by-recursion, of-recursion}
 use Rattle.world_laws.proofs.OneBus.{entry, by_end, turn_on, turns_on}
 use Rattle.world_laws.proofs.Calls.{Call, was-member, as_it_was, end_live, entries_live, entries-call, submit-call, take-call, end-call, emitted-call}

@@ -3,8 +3,7 @@ use Rattle.std.specs.Prelude.{◌≡◌, ◌≤◌, ℕ, ◌+◌, ◌*◌, ◌==
 use Rattle.log_specs.specs.Line.{Line, On, Down, Over, End}
 use Rattle.fmi_states.specs.declared.call.Call.{Call}
 use Rattle.fmi_states.specs.declared.reply.Reply.{Reply}
-use Rattle.session_specs.specs.Replies.{bytes_in}
-use Rattle.world_specs.specs.Fits.{AreBytes}
+use Rattle.fmi_states.specs.Reply.{bytes_in, AreBytes}
 use Rattle.bus_specs.specs.Bus.{Bus, among, has_request}
 use Rattle.bus_specs.specs.Sound.{HasNothing}
 use Rattle.bus_specs.specs.Inbox.{has_inbox}

@@ -1,6 +1,7 @@
 -- What holds of a network in every state that a run comes to.
 use Rattle.std.specs.Prelude.{◌≡◌, ◌≤◌, ◌<◌, ◌==◌, ◌&&◌, ℕ, Bool, true, false, All, IfSome, List, is_some, map, ⊤}
 use Rattle.std.specs.List.{list_any}
+use Rattle.fmi_states.specs.Reply.{AreBytes}
 use Rattle.session_specs.specs.Outcome.{DueChange, Keep, Clear, At}
 use Rattle.bus_specs.specs.Bus.{Bus, among, member_is}
 use Rattle.bus_specs.specs.Sound.{Sound}
@@ -15,9 +16,6 @@ abbrev pub IsSetBehind : ℕ → DueChange → Type 0
 IsSetBehind moment Keep = ⊤
 IsSetBehind moment Clear = ⊤
 IsSetBehind moment (At due) = moment < due
-
-abbrev pub AreBytes : List ℕ → Type 0
-AreBytes bytes = All (λ b. b < 256) bytes
 
 -- A session sets clocks behind its moment, and what it emits are bytes.
 pub record UnitsFit {S : Type 0} (u : Units S) : Type 0 where
