@@ -1,5 +1,5 @@
 -- What a module has that is that of a unit, and what its functions come to.
-use Rattle.std.specs.Prelude.{◌≡◌, ℕ, ◌+◌, ◌==◌, ◌&&◌, Bool, true, false, IsTrue, List, [], ◌∷◌, ◌++◌, map, reverse, length, Option, None, Some, option_map, cond, refl}
+use Rattle.std.specs.Prelude.{◌≡◌, ℕ, ◌+◌, ◌==◌, Bool, true, false, List, [], ◌∷◌, reverse, Option, None, Some, option_map, cond, refl}
 use Rattle.std.proofs.Common.{sym, ap, ◌∙◌, subst}
 use Rattle.std.proofs.lemmas.Bool.{and_parts}
 use Rattle.wasm_types.specs.declared.instr.ValType.{ValType}
@@ -18,7 +18,7 @@ use Rattle.binding_specs.specs.declared.function.Function.{Function}
 use Rattle.binding_specs.specs.declared.function.Function.TheVariants.{Area, Instantiate, EnterInit, ExitInit, EnterEvent, EnterStep, SetClock, SetBinary, GetClock, GetBinary, Update, GetInterval, DoStep, Terminate, Free}
 use Rattle.binding_specs.specs.declared.error.BindError.{BindError}
 use Rattle.binding_specs.specs.declared.error.BindError.TheVariants.{Signature}
-use Rattle.binding_specs.specs.Exports.{Row, Item, AFunction, function_row, name_of, type_of, rows, export_named, exported_type, is_type, is_item, fault_at, or_else, first_fault_from, binding_fault, index_if, index_of}
+use Rattle.binding_specs.specs.Exports.{Row, function_row, type_of, rows, export_named, exported_type, is_type, is_item, fault_at, or_else, first_fault_from, binding_fault, index_if}
 use Rattle.binding_laws.specs.Words.{Has, IsThere}
 
 -- ---- equal types

@@ -1,5 +1,5 @@
 -- How many functions a call runs.
-use Rattle.std.specs.Prelude.{◌≡◌, ℕ, ◌+◌, ◌*◌, ◌-◌, ◌≤◌, All, Bool, true, false, List, [], ◌∷◌, ◌++◌, Option, None, Some, length, sum, nat_le, slice_get, Result, Ok, Err, refl}
+use Rattle.std.specs.Prelude.{ℕ, ◌+◌, ◌-◌, ◌≤◌, Bool, true, false, List, [], ◌∷◌, Option, None, Some, length, nat_le, slice_get, Result}
 use Rattle.std.proofs.Common.{arith}
 use Rattle.std.proofs.lemmas.List.{length-append}
 use Rattle.fmi_states.specs.declared.status.FmiStatus.{FmiStatus}
@@ -14,10 +14,10 @@ use Rattle.binding_specs.specs.declared.function.Function.{Function}
 use Rattle.binding_specs.specs.declared.function.Function.TheVariants as function
 use Rattle.binding_specs.specs.Exports.{index_of}
 use Rattle.binding_specs.specs.Guests.{Guest, bytes_place, area_size}
-use Rattle.binding_specs.specs.Pieces.{Work, wanted, outcome, run, writes}
-use Rattle.binding_specs.specs.Exchanges.{calls, the_number, statuses, status_of, is_fine, place_area, asks_area, reply_if, starts, prepares, function_of, arguments_of, status_by, exchange}
+use Rattle.binding_specs.specs.Pieces.{Work, wanted, outcome, run}
+use Rattle.binding_specs.specs.Exchanges.{calls, the_number, statuses, status_of, is_fine, asks_area, reply_if, starts, prepares, function_of, arguments_of, status_by, exchange}
 use Rattle.binding_specs.specs.Answers.{work_of, used_by}
-use Rattle.binding_laws.specs.Words.{is_instantiation, most_functions}
+use Rattle.binding_laws.specs.Words.{most_functions}
 use Rattle.binding_laws.proofs.Follows.{follow_keeps, wanted_keeps, tested}
 use Rattle.binding_laws.proofs.Kept.{number_keeps, reply_keeps}
 

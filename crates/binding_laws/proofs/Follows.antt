@@ -1,5 +1,5 @@
 -- What holds of pieces that follow each other.
-use Rattle.std.specs.Prelude.{◌≡◌, ℕ, List, Bool, true, false, Option, None, Some, Result, Ok, Err, cond, refl}
+use Rattle.std.specs.Prelude.{◌≡◌, Bool, true, false, Option, None, Some, Result, Ok, Err, cond, refl}
 use Rattle.fmi_states.specs.declared.reply.Broken.{Broken}
 use Rattle.binding_specs.specs.Pieces.{Work, Piece, follow, wanted}
 

@@ -1,6 +1,7 @@
 -- What holds of the replies of guests.
-use Rattle.std.specs.Prelude.{◌≡◌, ℕ, ◌+◌, ◌%◌, ◌<◌, All, Bool, true, false, IsTrue, List, [], ◌∷◌, map, option_map, Option, None, Some, Result, Ok, Err, slice_get, nat_le, refl}
+use Rattle.std.specs.Prelude.{◌≡◌, ℕ, ◌+◌, ◌%◌, ◌<◌, Bool, true, false, IsTrue, List, [], ◌∷◌, map, option_map, Option, None, Some, Result, Ok, Err, nat_le, refl}
 use Rattle.std.proofs.Common.{sym, ap, ◌∙◌, subst, arith}
+use Rattle.std.proofs.lemmas.Bool.{lt-ltb}
 use Rattle.std.proofs.lemmas.List.Elements.{All-nil, All-cons}
 use Rattle.fmi_states.specs.declared.status.FmiStatus.{FmiStatus}
 use Rattle.fmi_states.specs.declared.call.Call.{Call}
@@ -10,40 +11,55 @@ use Rattle.fmi_states.specs.declared.reply.Reply.TheVariants as reply
 use Rattle.fmi_states.specs.declared.reply.Broken.{Broken}
 use Rattle.fmi_states.specs.declared.reply.Broken.TheVariants.{BadBuffer}
 use Rattle.fmi_states.specs.Phase.{next_phase}
-use Rattle.fmi_states.specs.Reply.{status_of, is_suitable}
+use Rattle.fmi_states.specs.Reply.{status_of, bytes_in, AreBytes, are_bytes, is_suitable}
 use Rattle.code_specs.specs.Stores.{bytes_at}
 use Rattle.binding_specs.specs.Guests.{Guest, most_bytes, bytes_place}
-use Rattle.binding_specs.specs.Pieces.{Work, Piece, follow, wanted}
-use Rattle.binding_specs.specs.Exchanges.{is_fine, number_in_area, flag_in_area, qualifier_in_area, bytes_in_area, bytes_if, binary_in_area, asks_area, bare_reply, full_reply, reply_if, prepares, status_by, exchange}
+use Rattle.binding_specs.specs.Pieces.{Work, follow, wanted}
+use Rattle.binding_specs.specs.Exchanges.{is_fine, number_in_area, flag_in_area, qualifier_in_area, bytes_if, binary_in_area, asks_area, bare_reply, full_reply, reply_if, prepares, status_by, exchange}
 use Rattle.binding_specs.specs.Answers.{work_of, reply_of, answer}
-use Rattle.binding_laws.specs.Words.{AreBytes, bytes_replied}
 use Rattle.binding_laws.proofs.Follows.{Leads, follow_leads, follow_knowing}
 
+-- bytes, as clauses and as tests say it
+record Bytes (bytes : List ℕ) : Type 0 where
+  pub are : AreBytes bytes
+  pub pass : IsTrue (are_bytes bytes)
+
+none_are : Bytes []
+none_are = record { are = All-nil (λ b. b < 256); pass = refl }
+
 -- each is read as a byte
-below : (bytes : List ℕ) → AreBytes (map (λ b. b % 256) bytes)
-below [] = All-nil (λ b. b < 256)
-below (b ∷ bs) = All-cons (λ b. b < 256) (b % 256) (map (λ b. b % 256) bs) (omega arith) (below bs)
+below : (bytes : List ℕ) → Bytes (map (λ b. b % 256) bytes)
+below [] = none_are
+below (b ∷ bs) =
+    let small : b % 256 < 256 = omega arith in
+    record {
+      are = All-cons (λ b. b < 256) (b % 256) (map (λ b. b % 256) bs) small (below bs).are;
+      pass = rw (lt-ltb (b % 256) 256 small) (below bs).pass;
+    }
+
+abbrev AreRead : List ℕ → Work → Type 0
+AreRead bytes w = Bytes bytes
 
 read_below : (o : Option (List ℕ)) (w : Work)
-    → Leads (λ (bytes : List ℕ) w. AreBytes bytes) (wanted BadBuffer (option_map (map (λ b. b % 256)) o) w).0 (wanted BadBuffer (option_map (map (λ b. b % 256)) o) w).1
+    → Leads AreRead (wanted BadBuffer (option_map (map (λ b. b % 256)) o) w).0 (wanted BadBuffer (option_map (map (λ b. b % 256)) o) w).1
 read_below None w = tt
 read_below (Some bytes) w = below bytes
 
-taken_below : (fits : Bool) (count : ℕ) (w : Work) → Leads (λ (bytes : List ℕ) w. AreBytes bytes) (bytes_if fits count w).0 (bytes_if fits count w).1
+taken_below : (fits : Bool) (count : ℕ) (w : Work) → Leads AreRead (bytes_if fits count w).0 (bytes_if fits count w).1
 taken_below true count w = read_below (bytes_at w.store.bytes (w.area + bytes_place) count) w
 taken_below false count w = tt
 
 -- what the laws say of a reply with this status
 record IsReply (c : Call) (status : FmiStatus) (r : Reply) : Type 0 where
   pub suits : IsTrue (is_suitable c r)
-  pub bytes : AreBytes (bytes_replied r)
+  pub bytes : AreBytes (bytes_in r)
   pub has : status_of r ≡ Some status
 
 abbrev Is : Call → FmiStatus → Reply → Work → Type 0
 Is c status r w = IsReply c status r
 
 -- a reply without bytes
-plain : (c : Call) (status : FmiStatus) (r : Reply) → IsTrue (is_suitable c r) → bytes_replied r ≡ [] → status_of r ≡ Some status → IsReply c status r
+plain : (c : Call) (status : FmiStatus) (r : Reply) → IsTrue (is_suitable c r) → bytes_in r ≡ [] → status_of r ≡ Some status → IsReply c status r
 plain c status r suits none has = record { suits = suits; bytes = subst AreBytes (sym none) (All-nil (λ b. b < 256)); has = has }
 
 clock_is : (reference : ℕ) (status : FmiStatus) (w : Work) → Leads (Is (call.GetClock reference) status) (follow (flag_in_area 0 w).0 (λ ticks w. (Ok (reply.Clock status ticks), w)) (flag_in_area 0 w).1).0 (follow (flag_in_area 0 w).0 (λ ticks w. (Ok (reply.Clock status ticks), w)) (flag_in_area 0 w).1).1
@@ -58,10 +74,10 @@ full_is g call.Instantiate status w =
 full_is g (call.GetClock reference) status w = clock_is reference status w
 full_is g (call.GetBinary reference) status w =
     let most = most_bytes g.description.terminals reference in
-    follow_knowing (λ (bytes : List ℕ) w. AreBytes bytes) (Is (call.GetBinary reference) status) (binary_in_area most w).0 (λ bytes w. (Ok (reply.Data status bytes), w)) (binary_in_area most w).1
-    (follow_leads (λ (bytes : List ℕ) w. AreBytes bytes) (number_in_area 0 4 w).0 (λ count. bytes_if (nat_le count most) count) (number_in_area 0 4 w).1 (λ count.
+    follow_knowing AreRead (Is (call.GetBinary reference) status) (binary_in_area most w).0 (λ bytes w. (Ok (reply.Data status bytes), w)) (binary_in_area most w).1
+    (follow_leads AreRead (number_in_area 0 4 w).0 (λ count. bytes_if (nat_le count most) count) (number_in_area 0 4 w).1 (λ count.
     taken_below (nat_le count most) count (number_in_area 0 4 w).1))
-    (λ bytes are. record { suits = refl; bytes = are; has = refl })
+    (λ bytes read. record { suits = read.pass; bytes = read.are; has = refl })
 full_is g call.Update status w =
     follow_leads (Is call.Update status) (flag_in_area 0 w).0 (λ another w. follow (flag_in_area 4 w).0 (λ end w. (Ok (reply.Updated status another end), w)) (flag_in_area 4 w).1) (flag_in_area 0 w).1 (λ another.
     let w = (flag_in_area 0 w).1 in
@@ -106,7 +122,7 @@ bare_is call.Free status = plain call.Free status (reply.Plain status) refl refl
 -- a reply of its kind with bytes, and the bare one where its status isn't fine
 record IsSound (c : Call) (r : Reply) : Type 0 where
   pub suits : IsTrue (is_suitable c r)
-  pub bytes : AreBytes (bytes_replied r)
+  pub bytes : AreBytes (bytes_in r)
   pub bare : (status : FmiStatus) → status_of r ≡ Some status → is_fine status ≡ false → r ≡ bare_reply c status
 
 abbrev Sound : Call → Reply → Work → Type 0
@@ -171,7 +187,7 @@ answer_sound g c = replied c (exchange g c (work_of g)).0 (exchange g c (work_of
 pub reply_suits : (g : Guest) (c : Call) → IsTrue (is_suitable c (answer g c).0)
 reply_suits g c = (answer_sound g c).suits
 
-pub reply_is_bytes : (g : Guest) (c : Call) → AreBytes (bytes_replied (answer g c).0)
+pub reply_is_bytes : (g : Guest) (c : Call) → AreBytes (bytes_in (answer g c).0)
 reply_is_bytes g c = (answer_sound g c).bytes
 
 pub reply_is_bare : (g : Guest) (c : Call) (status : FmiStatus) → status_of (answer g c).0 ≡ Some status → is_fine status ≡ false → (answer g c).0 ≡ bare_reply c status

@@ -1,5 +1,5 @@
 -- What a call keeps: the budgets, the memory and the area.
-use Rattle.std.specs.Prelude.{◌≡◌, ℕ, ◌+◌, ◌-◌, ◌≤◌, All, Bool, true, false, List, [], ◌∷◌, ◌++◌, Option, None, Some, length, take, drop, nat_le, Result, Ok, Err, refl}
+use Rattle.std.specs.Prelude.{◌≡◌, ℕ, ◌+◌, ◌-◌, ◌≤◌, All, Bool, true, false, List, [], ◌∷◌, ◌++◌, length, take, drop, nat_le, Result, Ok, Err, refl}
 use Rattle.std.proofs.Common.{arith, ap, sym, ◌∙◌}
 use Rattle.std.proofs.lemmas.Bool.{leb-true}
 use Rattle.std.proofs.lemmas.List.{length-append, length-take, length-drop}
@@ -12,7 +12,7 @@ use Rattle.fmi_states.specs.declared.reply.Reply.TheVariants as reply
 use Rattle.fmi_states.specs.declared.reply.Broken.{Broken}
 use Rattle.wasm_types.specs.Modules.{NestedModule}
 use Rattle.code_specs.specs.Values.{Value}
-use Rattle.code_specs.specs.Stores.{Store, replaced_at}
+use Rattle.code_specs.specs.Stores.{replaced_at}
 use Rattle.code_specs.specs.Execution.{Answer, Returned, Trapped, Spent, Stuck, answer_of}
 use Rattle.code_laws.specs.Kept.{LeavesBytes}
 use Rattle.code_laws.proofs.Growth.{never_shrinks}

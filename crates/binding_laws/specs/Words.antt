@@ -1,23 +1,13 @@
 -- What the laws say of guests and their replies.
-use Rattle.std.specs.Prelude.{◌≡◌, ℕ, ◌+◌, ◌<◌, ◌≤◌, All, Bool, true, false, List, [], Option, Some, length}
+use Rattle.std.specs.Prelude.{◌≡◌, ℕ, ◌+◌, ◌≤◌, Bool, true, false, Some, length}
 use Rattle.fmi_states.specs.declared.call.Call.{Call}
 use Rattle.fmi_states.specs.declared.call.Call.TheVariants as call
-use Rattle.fmi_states.specs.declared.reply.Reply.{Reply}
-use Rattle.fmi_states.specs.declared.reply.Reply.TheVariants as reply
 use Rattle.wasm_types.specs.declared.module.Export.{Export}
 use Rattle.wasm_types.specs.Modules.{NestedModule}
 use Rattle.code_specs.specs.Signatures.{Function as TypedFunction, function_at}
 use Rattle.binding_specs.specs.declared.function.Function.{Function}
 use Rattle.binding_specs.specs.Exports.{Row, export_named, is_item, index_of, type_of}
 use Rattle.binding_specs.specs.Guests.{Guest, area_size}
-
--- the bytes of a binary output, and none in a reply of another kind
-abbrev pub bytes_replied : Reply → List ℕ
-bytes_replied (reply.Data status bytes) = bytes
-bytes_replied other = []
-
-abbrev pub AreBytes : List ℕ → Type 0
-AreBytes bytes = All (λ b. b < 256) bytes
 
 abbrev pub is_instantiation : Call → Bool
 is_instantiation call.Instantiate = true

@@ -3,16 +3,15 @@ ghost use Rattle.std.specs.Prelude.{◌≡◌, IsTrue, Some, false};
 ghost use Rattle.fmi_states.specs.declared.status.FmiStatus.{FmiStatus};
 ghost use Rattle.fmi_states.specs.declared.call.Call.{Call};
 ghost use Rattle.fmi_states.specs.Phase.{next_phase};
-ghost use Rattle.fmi_states.specs.Reply.{status_of, is_suitable};
+ghost use Rattle.fmi_states.specs.Reply.{status_of, bytes_in, AreBytes, is_suitable};
 ghost use Rattle.binding_specs.specs.Guests.{Guest};
 ghost use Rattle.binding_specs.specs.Exchanges.{is_fine, bare_reply};
 ghost use Rattle.binding_specs.specs.Answers.{answer};
-ghost use Rattle.binding_laws.specs.Words.{AreBytes, bytes_replied};
 
 /// In every state the reply is of the call's kind, what it holds are bytes, and the phase moves by the table.
 pub fn replies_suit_their_calls()
     ensures suits { (g : Guest) (c : Call) → IsTrue (is_suitable c (answer g c).0) }
-    ensures bytes { (g : Guest) (c : Call) → AreBytes (bytes_replied (answer g c).0) }
+    ensures bytes { (g : Guest) (c : Call) → AreBytes (bytes_in (answer g c).0) }
     ensures phase { (g : Guest) (c : Call) → (answer g c).1.phase ≡ next_phase g.phase c (answer g c).0 }
 {}
 

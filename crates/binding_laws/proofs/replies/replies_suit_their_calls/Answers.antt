@@ -1,5 +1,3 @@
-use Rattle.std.specs.Prelude.{refl}
-use Rattle.binding_specs.specs.Answers.{answer}
 use Rattle.binding_laws.proofs.Sound.{reply_suits, reply_is_bytes, phase_moves}
 use Rattle.binding_laws.proofs.replies.replies_suit_their_calls.Goals as goal
 
