@@ -4,3 +4,4 @@ pub mod Kept
 pub mod Steady
 pub mod Counts
 pub mod Bound
+pub mod Firsts
