@@ -1,7 +1,5 @@
-use Rattle.std.proofs.Common.{◌≡◌, ◌∙◌, ap, sym, subst, arith, reverse, refl, List, [], length}
-use Rattle.std.specs.Prelude.{Ok, Err}
+use Rattle.std.proofs.Common.{ap, sym, subst, arith, reverse, List}
 use Rattle.wasm_validate.specs.declared.labels.Mark.{Mark}
-use Rattle.wasm_validate.specs.declared.step.Turn.TheVariants as turns
 use Rattle.wasm_validate.specs.Marks.{AreMarks}
 use Rattle.wasm_validate.proofs.Runs.{Stays, begins, goes_on, fails, ends, never_past}
 use Rattle.wasm_validate.proofs.body.check_body.Goals as goal
