@@ -1,0 +1,2 @@
+-- What the laws say, beside the definitions themselves.
+pub mod Words

@@ -1,0 +1,2 @@
+-- Words of this crate's clauses.
+pub mod Faults
