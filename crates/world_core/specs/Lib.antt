@@ -5,3 +5,8 @@ pub mod Units
 pub mod Seen
 pub mod Kept
 pub mod OnBuses
+pub mod Asks
+pub mod Clocks
+pub mod Bare
+pub mod SeenTurns
+pub mod Sitting
