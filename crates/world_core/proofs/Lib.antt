@@ -8,6 +8,8 @@ pub mod Settling
 pub mod ClockSteps
 pub mod Placing
 pub mod Entries
+pub mod Holding
+pub mod Calls
 pub mod TurnSteps
 pub mod TurnSeen
 pub mod Moved

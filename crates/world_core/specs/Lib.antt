@@ -10,3 +10,5 @@ pub mod Clocks
 pub mod Bare
 pub mod SeenTurns
 pub mod Sitting
+pub mod Settled
+pub mod Called
