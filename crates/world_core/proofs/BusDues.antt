@@ -85,7 +85,7 @@ dues-in-order : (b : Bus) (now : ℕ) → Sound b → (o : Option Running) → I
 dues-in-order b now s (Some r) = (tt, subst (InOrder 0) (append-nil (notices b)) (others 0 (flat_map notice_moments b.members) [] tt))
 dues-in-order b now s None =
     let rest : (low : ℕ) → InOrder low (notices b ++ starts b now) =
-        λ low. others low (flat_map notice_moments b.members) (starts b now) (all-starts low (λ m. max now (ready_moment b m)) (filter (wants b) b.members)) in
+    λ low. others low (flat_map notice_moments b.members) (starts b now) (all-starts low (λ m. max now (ready_moment b m)) (filter (wants b) b.members)) in
     subst (InOrder 0) (sym (append_assoc (returns b) (notices b) (starts b now)))
     (all-returns b (notices b ++ starts b now) rest b.members 0 0 s.nodes.0 (omega arith) s.nodes.1)
 
@@ -120,8 +120,8 @@ module _ {S : Type 0} (stop : ℕ) (w : World S) (e : Event) (n : next_event sto
       → comes_before (rank (what_of b.setup.number k)) (rank (what_of b.setup.number j)) ≡ true → ⊥
   clash f i s k j x y r =
       let l = strictly-later (event_of b.setup.number d) (event_of b.setup.number f) (unbeaten f i)
-          (subst (λ v. comes_before (rank (what_of b.setup.number v)) (rank (what_of b.setup.number d.what)) ≡ true) (sym x)
-          (subst (λ v. comes_before (rank (what_of b.setup.number k)) (rank (what_of b.setup.number v)) ≡ true) (sym y) r)) in
+      (subst (λ v. comes_before (rank (what_of b.setup.number v)) (rank (what_of b.setup.number d.what)) ≡ true) (sym x)
+      (subst (λ v. comes_before (rank (what_of b.setup.number k)) (rank (what_of b.setup.number v)) ≡ true) (sym y) r)) in
       omega (arith, l, s)
 
   -- what stands first of equals

@@ -118,7 +118,7 @@ module _ {E G S : Type 0} (g : Ghosts E G S) (replies : AnswersBytes g.answer) (
   -- the event of a network whose nodes stay
   pub kept-on : (e : Event) (bs : List Bus) → IsKept g c es shared → next_event c.plan.stop (network_of c (states_of g es shared)) ≡ Some e → c.events < c.plan.events
       → record { events = c.events + 1; now = e.moment; buses = bs; nodes = (network_of c (states_of g es shared)).nodes }
-          ≡ world_behind (units_of g.answer g.phase_of c.plan) (network_of c (states_of g es shared)) e
+      ≡ world_behind (units_of g.answer g.phase_of c.plan) (network_of c (states_of g es shared)) e
       → IsKept g (record c { buses = bs; events = c.events + 1; now = e.moment }) es shared
   kept-on e bs k n l s = record {
     plan = k.plan;

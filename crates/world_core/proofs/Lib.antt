@@ -7,3 +7,15 @@ pub mod Coming
 pub mod Numbered
 pub mod BusDues
 pub mod BusEvents
+pub mod Asking
+pub mod Readying
+pub mod Walking
+pub mod Settling
+pub mod ClockSteps
+pub mod Placing
+pub mod Entries
+pub mod Holding
+pub mod Calls
+pub mod TurnSteps
+pub mod TurnSeen
+pub mod Moved

@@ -2,7 +2,7 @@
 use Rattle.std.proofs.Common.{◌≡◌, ◌≤◌, ◌<◌, ◌+◌, ◌^◌, ℕ, zero, suc, Bool, true, false, if◌then◌else◌, List, [], ◌∷◌, ◌++◌, flat_map, map, All, Some, slice_get, slice_set, arith, refl, sym, ap, ◌∙◌, eq-eqb, get_or, length, subst, inl, inr}
 use Rattle.std.specs.Prelude.{◌==◌}
 use Rattle.std.proofs.lemmas.Bool.{ne_eqb}
-use Rattle.std.proofs.lemmas.List.{append-nil}
+use Rattle.std.proofs.lemmas.List.{append-nil, length-map}
 use Rattle.std.proofs.lemmas.List.Elements.{All-head, All-tail}
 use Rattle.std.proofs.lemmas.Option.{slice_get_read, slice_get_within}
 use Rattle.log_specs.specs.Line.{Line}
@@ -12,7 +12,7 @@ use Rattle.bus_sound.proofs.Among.{Among, among-Contains}
 use Rattle.bus_sound.proofs.Steady.{Steady}
 use Rattle.bus_specs.specs.Inbox.{inbox}
 use Rattle.world_specs.specs.Sessions.{inbox_on}
-use Rattle.world_specs.specs.Plan.{AllFrom, BusPlan, IsBusPlan, Plan, IsPlan}
+use Rattle.world_specs.specs.Plan.{AllFrom, BusPlan, IsBusPlan, IsNodePlan, NodePlan, Plan, IsPlan}
 use Rattle.world_core.specs.Courses.{Course, plan_of_bus}
 use Rattle.world_core.specs.OnBuses.{HasNumber, AreNumbered, IsDueOn, buses_with, lines_with}
 
@@ -94,10 +94,13 @@ due-there bs bus d b h k g =
     let same : k.on ≡ b = cc in
     (k.since, subst (λ c. next_due c k.since ≡ Some d) same k.next)
 
+pub all-at : {X : Type 0} (P : X → Type 0) (xs : List X) (i : ℕ) (x : X) → All P xs → slice_get xs i ≡ Some x → P x
+all-at P [] i x h g = absurd cc
+all-at P (y ∷ xs) zero x h g = let it : y ≡ x = cc in subst P it (All-head P y xs h)
+all-at P (y ∷ xs) (suc i) x h g = all-at P xs i x (All-tail P y xs h) g
+
 pub few-attempts : (bs : List Bus) (i : ℕ) (b : Bus) → All (λ b. b.attempts < 2 ^ 63) bs → slice_get bs i ≡ Some b → b.attempts < 2 ^ 63
-few-attempts [] i b h g = absurd cc
-few-attempts (c ∷ bs) zero b h g = let it : c ≡ b = cc in subst (λ (x : Bus). x.attempts < 2 ^ 63) it (All-head (λ (x : Bus). x.attempts < 2 ^ 63) c bs h)
-few-attempts (c ∷ bs) (suc i) b h g = few-attempts bs i b (All-tail (λ (x : Bus). x.attempts < 2 ^ 63) c bs h) g
+few-attempts bs i b h g = all-at (λ (x : Bus). x.attempts < 2 ^ 63) bs i b h g
 
 -- ---- what waits on a bus
 
@@ -129,6 +132,12 @@ numbers-from p place (b ∷ bs) h = ((h.0).number, numbers-from p (place + 1) bs
 
 pub numbered : (p : Plan) (bs : List Bus) → IsPlan p → p.buses ≡ map plan_of_bus bs → AreNumbered bs
 numbered p bs h e = numbers-from p 0 bs (subst (AllFrom 0 (IsBusPlan p)) e h.buses)
+
+-- a node names buses that are there
+pub names-there : (p : Plan) (bs : List Bus) (i : ℕ) (n : NodePlan) → IsPlan p → p.buses ≡ map plan_of_bus bs → slice_get p.nodes i ≡ Some n → All (λ bus. bus < length bs) n.buses
+names-there p bs i n h e g =
+    let many : length p.buses ≡ length bs = ap length e ∙ length-map bs plan_of_bus in
+    subst (λ m. All (λ bus. bus < m) n.buses) many (all-at (IsNodePlan (length p.buses)) p.nodes i n h.nodes g).there
 
 -- ---- what a bus was made from stays
 

@@ -6,3 +6,10 @@ pub mod Seen
 pub mod Kept
 pub mod First
 pub mod OnBuses
+pub mod Asks
+pub mod Clocks
+pub mod Bare
+pub mod SeenTurns
+pub mod Sitting
+pub mod Settled
+pub mod Called

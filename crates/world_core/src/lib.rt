@@ -1,13 +1,17 @@
 //! A network of units on several buses, event by event, over any unit of FMI 3.0.
 #![tactic(auto)]
 
+mod clocks;
 mod course;
 mod event;
 mod happening;
 mod next;
 mod opening;
 mod plan;
+mod sessions;
 mod standing;
+mod turns;
+mod units;
 mod world;
 
 pub use event::{Event, What};

@@ -1,0 +1,26 @@
+use Rattle.std.proofs.Common.{◌≡◌, ◌<◌, [], true, Some, slice_get, slice_set, ap, sym, ◌∙◌, subst, arith}
+use Rattle.std.proofs.lemmas.Option.{slice_get_read}
+use Rattle.session_specs.specs.Session.{can_begin, is_fresh, phase_behind}
+use Rattle.world_core.specs.Units.{states_of}
+use Rattle.world_core.proofs.Moved.{apart-stays, state-at, state-is, states-set}
+use Rattle.world_core.proofs.units.session_at.Goals as goal
+
+pub returns-clause-sat : goal.returns-clause-sat
+returns-clause-sat g c =
+    let inside : c.args.place < _ = omega (arith, c.requires.there, c.args.ecus.now.ok.0) in
+    let at : slice_get c.args.ecus.now.items c.args.place ≡ Some c.index_mut-ecu.result.now = slice_get_read _ _ _ _ c.args.ecus.now.ok.0 inside c.index_mut-ecu.ensures.value in
+    let came = c.in_ok-out.ensures.session in
+    record {
+      state = g.E.Ecu.state c.index_mut-ecu.result.now c.args.shared.now;
+      here = state-at g.E.Ecu c.args.ecus.now.items c.args.shared.now c.args.place c.index_mut-ecu.result.now at;
+      came = ap (λ p. p.0) came;
+      behind = states-set g.E.Ecu g.met.E.Ecu.in_by_parts g.met.E.Ecu.state_by_parts _ _ _ _ _ _ c.requires.apart at c.session.ensures.apart.others
+          ∙ ap (λ p. slice_set (states_of g.E.Ecu c.args.ecus.now.items c.args.shared.now) c.args.place p.1) (sym came);
+      phase = ap (λ p. g.E.Ecu.phase_of p.1) came ∙ c.in_ok-out.ensures.phase;
+    }
+
+pub returns-clause-apart : goal.returns-clause-apart
+returns-clause-apart g c =
+    let inside : c.args.place < _ = omega (arith, c.requires.there, c.args.ecus.now.ok.0) in
+    let at : slice_get c.args.ecus.now.items c.args.place ≡ Some c.index_mut-ecu.result.now = slice_get_read _ _ _ _ c.args.ecus.now.ok.0 inside c.index_mut-ecu.ensures.value in
+    apart-stays g.E.Ecu g.met.E.Ecu.in_by_parts g.met.E.Ecu.state_by_parts _ _ _ _ _ _ c.requires.apart at c.session.ensures.apart.others c.in_ok-out.ensures.apart.parts c.in_ok-out.ensures.apart.here
