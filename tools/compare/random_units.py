@@ -46,6 +46,12 @@ class Habits:
         self.frames_alone = dice.choice([0.3, 0.9, 0.97, 1])
         self.most = dice.choice([1, 1, 3, 3, 400])
         self.cuts = dice.choice([0, 0, 0.1])
+        self.wishes = dice.choice([0, 0.002, 0.01])
+
+    def keep_on_sending(self):
+        """Frames and hardly anything else; now and then a unit ends."""
+        self.faults, self.cuts, self.repeats, self.most = 0, 0, 0, 1
+        self.frames_alone, self.emits, self.ends = 0.999, 0.9, self.wishes
 
 
 def plain_operation(dice, habits):

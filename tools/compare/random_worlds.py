@@ -60,17 +60,39 @@ def random_plan(dice):
     return plan
 
 
-def random_world(dice):
-    """A world with the replies that units gave at random in a run of it."""
-    plan = random_plan(dice)
+def declining(dice, plan):
+    """Long stretches of errors on each bus, so that nodes become passive and off, and come back."""
+    plan.events = 900
+    plan.stop = LATEST
+    for place, bus in enumerate(plan.buses):
+        first = 1
+        while first < 300:
+            error = random_error(dice, plan.members(place))
+            bus.errors.append(Error(first, dice.choice([1, 10, 17, 33]), error.kind, error.by, error.bit))
+            first = bus.errors[-1].last + dice.choice([-4, 1, 1, 2, 6])
+
+
+def random_units(dice, plan):
+    """A unit for each node, which answers at random."""
     identifiers = [dice.getrandbits(11) for _ in range(dice.choice([1, 2, 8]))]
     frames = [random_frame(dice, identifiers) for _ in range(dice.choice([1, 3, 20]))]
     bits = [bus.nominal for bus in plan.buses]
     rates = [rate for bus in plan.buses for rate in (bus.rate, bus.data_rate or 1)]
-    units = [RandomUnit(dice, Habits(dice, frames, plan.resolution, bits, rates)) for _ in plan.nodes]
+    return [RandomUnit(dice, Habits(dice, frames, plan.resolution, bits, rates)) for _ in plan.nodes]
+
+
+def random_world(dice):
+    """A world with the replies that units gave at random in a run of it."""
+    plan = random_plan(dice)
+    units = random_units(dice, plan)
+    declines = dice.random() < 0.3 and len(plan.nodes) < 7
+    if declines:
+        declining(dice, plan)
+        for unit in units:
+            unit.habits.keep_on_sending()
     world.World(plan, units).run()
     for node, unit in zip(plan.nodes, units):
-        kept = len(unit.given) if dice.random() < 0.95 else dice.randint(0, len(unit.given))
+        kept = len(unit.given) if declines or dice.random() < 0.95 else dice.randint(0, len(unit.given))
         node.replies = unit.given[:kept]
     return world_text.written(plan)
 
