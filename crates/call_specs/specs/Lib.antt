@@ -1,0 +1,5 @@
+-- The definitions of this crate.
+pub mod CallWords
+pub mod Called
+pub mod CallLine
+pub mod CallRows
