@@ -40,7 +40,3 @@ choosing_in r q end k s fuel = choosing r q end k.func k.position k.base k.depth
 -- one more list is open, and this position comes next
 abbrev pub opening_in : (position : ℕ) → Label → Stack → Store → (fuel : ℕ) → Step
 opening_in position l k s fuel = Go k.func position k.base (k.depth + 1) k.values (l ∷ k.labels) k.callers s fuel
-
--- The store of no module. What a step does to the stack alone, it does over every store: its conditions are asked over this.
-abbrev pub no_store : Store
-no_store = record { bytes = []; globals = [] }

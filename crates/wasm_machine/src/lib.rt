@@ -5,6 +5,7 @@
 mod access;
 mod instance;
 mod numeric;
+mod plain;
 mod room;
 mod stack;
 
