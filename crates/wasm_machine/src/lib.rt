@@ -8,6 +8,7 @@ mod numeric;
 mod plain;
 mod room;
 mod stack;
+mod step;
 
 pub use instance::Instance;
 pub use stack::Stack;
