@@ -11,7 +11,7 @@ use Rattle.wasm_types.specs.declared.module.Module.{Module}
 use Rattle.wasm_types.specs.Nested.{Code, Nil, Leaf, InBlock, InLoop, IfOnly, IfElse, HasPlainLeaves, size, flat_code, flat_body}
 use Rattle.wasm_types.specs.Spellable.{IsSpellable, HasSpellableLeaves, HasSpellableParts}
 use Rattle.wasm_types.specs.declared.instr.Instr.{Instr}
-use Rattle.wasm_types.specs.declared.instr.Instr.TheVariants.{Block, Loop, If, Else, End, Numeric, Access}
+use Rattle.wasm_types.specs.declared.instr.Instr.TheVariants.{Block, Loop, If, Else, End, Numeric, Access, I32Const, I64Const}
 use Rattle.wasm_types.specs.Modules.{NestedFunc, NestedModule, HasPlainFuncs, flat_func, flat_module}
 use Rattle.wasm_types.specs.Back.{nested_module}
 use Rattle.wasm_types.proofs.Whole.{body_stands, module_back}
@@ -27,7 +27,7 @@ use Rattle.code_specs.specs.Validity.{fails_at, each, has_one_result, validity, 
 use Rattle.code_laws.proofs.Tests.{passed}
 use Rattle.code_specs.specs.Signatures.{Function, function_at, typed_function}
 use Rattle.machine_steps.specs.Nesting.{Nests}
-use Rattle.machine_steps.specs.Modules.{HasOpcode, IsReady, FuncFits, HasLimits}
+use Rattle.machine_steps.specs.Modules.{IsEncodable, IsReady, FuncFits, HasLimits}
 use Rattle.machine_steps.proofs.Splits.{some_is}
 use Rattle.machine_steps.proofs.States.{Matches, Same}
 
@@ -187,13 +187,15 @@ unflat (g ∷ fs) (suc i) f e = let u = unflat fs i f e in record { nested = u.n
 
 -- ---- opcodes
 
-all_append : (xs ys : List Instr) → AllByRecursion HasOpcode xs → AllByRecursion HasOpcode ys → AllByRecursion HasOpcode (xs ++ ys)
+all_append : (xs ys : List Instr) → AllByRecursion IsEncodable xs → AllByRecursion IsEncodable ys → AllByRecursion IsEncodable (xs ++ ys)
 all_append [] ys g h = h
 all_append (x ∷ xs) ys g h = (g.0, all_append xs ys g.1 h)
 
-spellable_has : (i : Instr) → IsSpellable i → HasOpcode i
+spellable_has : (i : Instr) → IsSpellable i → IsEncodable i
 spellable_has (Numeric op) s = s
 spellable_has (Access op align offset) s = s.0
+spellable_has (I32Const z) s = s
+spellable_has (I64Const z) s = s
 spellable_has (Block r e) s = tt
 spellable_has (Loop r e) s = tt
 spellable_has (If r q e) s = tt
@@ -201,7 +203,7 @@ spellable_has (Else e) s = tt
 spellable_has End s = tt
 spellable_has i s = tt
 
-code_has : (c : Code) (p : ℕ) → HasSpellableLeaves c → AllByRecursion HasOpcode (flat_code c p)
+code_has : (c : Code) (p : ℕ) → HasSpellableLeaves c → AllByRecursion IsEncodable (flat_code c p)
 code_has Nil p s = tt
 code_has (Leaf i rest) p s = (spellable_has i s.0, code_has rest (p + 1) s.1)
 code_has (InBlock r inner rest) p s =
@@ -219,15 +221,15 @@ code_has (IfElse r first second rest) p s =
     (tt, all_append (flat_code first (p + 1)) (Else e ∷ (flat_code second (q + 1) ++ End ∷ flat_code rest (e + 1))) (code_has first (p + 1) s.0)
     (tt, all_append (flat_code second (q + 1)) (End ∷ flat_code rest (e + 1)) (code_has second (q + 1) s.1) (tt, code_has rest (e + 1) s.2)))
 
-body_has : (c : Code) → HasSpellableLeaves c → AllByRecursion HasOpcode (flat_body c)
+body_has : (c : Code) → HasSpellableLeaves c → AllByRecursion IsEncodable (flat_body c)
 body_has c s = all_append (flat_code c 0) (End ∷ []) (code_has c 0 s) (tt, tt)
 
 pub ready_is : (fm : Module) (n : NestedModule) → fm ≡ flat_module n → HasLimits n → HasSpellableParts n → IsValid n → IsReady fm
 ready_is fm n flat h parts valid = record {
-  opcodes = λ i f e p x at.
+  encodable = λ i f e p x at.
       let u = unflat n.funcs i f (subst (λ (x : Module). slice_get x.funcs i ≡ Some f) flat e) in
       let leaves = all_at (λ (f : NestedFunc). HasSpellableLeaves f.code) n.funcs i u.nested (recursion_from_All (λ (f : NestedFunc). HasSpellableLeaves f.code) n.funcs parts.funcs) u.at in
-      all_at HasOpcode f.body p x (subst (λ (f : Func). AllByRecursion HasOpcode f.body) u.is (body_has u.nested.code leaves)) at;
+      all_at IsEncodable f.body p x (subst (λ (f : Func). AllByRecursion IsEncodable f.body) u.is (body_has u.nested.code leaves)) at;
   locals = λ i f e.
       let u = unflat n.funcs i f (subst (λ (x : Module). slice_get x.funcs i ≡ Some f) flat e) in
       subst (λ (f : Func). length f.locals ≤ 4096) u.is (all_at FuncFits n.funcs i u.nested h.funcs u.at).locals;

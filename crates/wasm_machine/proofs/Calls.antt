@@ -13,7 +13,6 @@ use Rattle.machine_steps.specs.declared.frame.Label.{Label}
 use Rattle.machine_steps.specs.declared.frame.Frame.{Frame}
 use Rattle.machine_steps.specs.Steps.{Step, Go, Stop, where_found, where_split, most_callers, calling}
 use Rattle.machine_steps.proofs.Splits.{first_is}
-use Rattle.wasm_machine.specs.Seen.{no_store}
 
 module _ (fm : Module) (index func position base depth : ℕ) (values : List ℕ) (labels : List Label) (callers : List Frame) (f : Func) (t : FuncType)
     (has : slice_get fm.funcs index ≡ Some f) (typed : slice_get fm.types f.ty ≡ Some t) (room : length callers < 255) where
@@ -36,9 +35,9 @@ module _ (fm : Module) (index func position base depth : ℕ) (values : List ℕ
     pub fits : length t.params ≤ length values
     pub is : (s : Store) (fuel : ℕ) → calling fm index func position base depth values labels callers s fuel ≡ entered s fuel (length values - length t.params)
 
-  by_split : (o : Option (Split ℕ)) → split_first (length t.params) values ≡ o → calling fm index func position base depth values labels callers no_store 0 ≢ Stop Stuck → GoesOn
-  by_split None is fine = absurd (fine (calls no_store 0 None is))
-  by_split (Some p) is fine =
+  by_split : (s0 : Store) (fuel0 : ℕ) (o : Option (Split ℕ)) → split_first (length t.params) values ≡ o → calling fm index func position base depth values labels callers s0 fuel0 ≢ Stop Stuck → GoesOn
+  by_split s0 fuel0 None is fine = absurd (fine (calls s0 fuel0 None is))
+  by_split s0 fuel0 (Some p) is fine =
       let x = first_is (length t.params) values p is in
       let whole : length values ≡ length p.top + length p.below = ap length x.whole ∙ length-append p.top p.below in
       let below : length p.below ≡ length values - length t.params = omega (arith, x.count, whole) in
@@ -47,5 +46,5 @@ module _ (fm : Module) (index func position base depth : ℕ) (values : List ℕ
         is = λ s fuel. calls s fuel (Some p) is ∙ ap (λ n. entered s fuel n) below;
       }
 
-  pub goes_on : calling fm index func position base depth values labels callers no_store 0 ≢ Stop Stuck → GoesOn
-  goes_on fine = by_split (split_first (length t.params) values) refl fine
+  pub goes_on : (s0 : Store) (fuel0 : ℕ) → calling fm index func position base depth values labels callers s0 fuel0 ≢ Stop Stuck → GoesOn
+  goes_on s0 fuel0 fine = by_split s0 fuel0 (split_first (length t.params) values) refl fine

@@ -2,4 +2,5 @@ mod Rooms
 mod Calls
 mod Shapes
 mod Numbers
-mod Signs
+mod Constants
+mod Accesses

@@ -1,9 +1,9 @@
 -- What the table of opcodes says of numeric instructions and accesses, looked up for each byte.
 use Rattle.std.proofs.Common.{◌≡◌, ◌≢◌, ℕ, zero, suc, ◌+◌, ◌<◌, ◌⊎◌, List, [], ◌∷◌, ◌++◌, length, Option, Some, None, refl, sym, ap, ◌∙◌, subst, ⊎_elim, arith, Bool, true, false}
-use Rattle.std.specs.Prelude.{◌==◌, ◌&&◌, ◌||◌, not, nat_lt, cond}
-use Rattle.std.proofs.lemmas.Bool.{cases_lt, eqb-true}
+use Rattle.std.specs.Prelude.{◌==◌, ◌&&◌, ◌||◌, not, nat_lt, nat_le, cond}
+use Rattle.std.proofs.lemmas.Bool.{cases_lt, eqb-true, leb-true}
 use Rattle.wasm_types.specs.declared.instr.ValType.{ValType}
-use Rattle.wasm_types.specs.Spellable.{is_numeric_op, is_access_op}
+use Rattle.wasm_types.specs.Spellable.{is_in, is_numeric_op, is_access_op}
 use Rattle.code_specs.specs.Values.{is_same}
 use Rattle.code_specs.specs.Signatures.{Signature, opcode_signature, access_bytes}
 use Rattle.code_laws.proofs.Tests.{both, same_is}
@@ -130,3 +130,29 @@ access_is op lt is =
       load = λ e. shape_is (opcode_signature op) 1 (loaded_type op) (sym (ap (λ b. cond b (has_shape (opcode_signature op) 1 (loaded_type op)) (is_store_shape (opcode_signature op))) e) ∙ b.1);
       store = λ e. store_shape_is (opcode_signature op) (sym (ap (λ b. cond b (has_shape (opcode_signature op) 1 (loaded_type op)) (is_store_shape (opcode_signature op))) e) ∙ b.1);
     }
+
+-- ---- opcodes are bytes
+
+in_or : (n : ℕ) (a b : Bool) → (a ≡ true → n < 256) → (b ≡ true → n < 256) → (a || b) ≡ true → n < 256
+in_or n true b g h e = g refl
+in_or n false b g h e = h e
+
+in_run : (low high n : ℕ) → high < 256 → is_in low high n ≡ true → n < 256
+in_run low high n lt e = omega (arith, lt, leb-true n high (both (nat_le low n) (nat_le n high) e).1)
+
+at_byte : (n k : ℕ) → k < 256 → (n == k) ≡ true → n < 256
+at_byte n k lt e = omega (arith, lt, eqb-true n k e)
+
+pub access_below : (op : ℕ) → is_access_op op ≡ true → op < 256
+access_below op e =
+    in_or op (is_in 0x28 0x29 op || is_in 0x2C 0x37 op) (is_in 0x3A 0x3E op)
+    (λ e. in_or op (is_in 0x28 0x29 op) (is_in 0x2C 0x37 op) (λ e. in_run 0x28 0x29 op (omega arith) e) (λ e. in_run 0x2C 0x37 op (omega arith) e) e)
+    (λ e. in_run 0x3A 0x3E op (omega arith) e) e
+
+pub numeric_below : (op : ℕ) → is_numeric_op op ≡ true → op < 256
+numeric_below op e =
+    in_or op (is_in 0x45 0x5A op || is_in 0x67 0x8A op || op == 0xA7) (is_in 0xAC 0xAD op)
+    (λ e. in_or op (is_in 0x45 0x5A op || is_in 0x67 0x8A op) (op == 0xA7)
+    (λ e. in_or op (is_in 0x45 0x5A op) (is_in 0x67 0x8A op) (λ e. in_run 0x45 0x5A op (omega arith) e) (λ e. in_run 0x67 0x8A op (omega arith) e) e)
+    (λ e. at_byte op 0xA7 (omega arith) e) e)
+    (λ e. in_run 0xAC 0xAD op (omega arith) e) e

@@ -2,3 +2,4 @@
 pub mod Seen
 pub mod Opcodes
 pub mod Instances
+pub mod Plain

@@ -1,11 +1,14 @@
 -- The steps of the machine over its own stack.
 use Rattle.std.specs.Prelude.{ℕ, suc, ◌+◌, List, [], ◌∷◌, Option, Some, None}
 use Rattle.wasm_types.specs.declared.instr.ValType.{ValType}
+use Rattle.wasm_types.specs.declared.instr.Instr.{Instr}
+use Rattle.wasm_types.specs.declared.instr.Instr.TheVariants.{Else, End}
 use Rattle.wasm_types.specs.declared.module.Module.{Module}
+use Rattle.wasm_types.specs.Back.{nested_module}
 use Rattle.code_specs.specs.Stores.{Store}
 use Rattle.code_specs.specs.Execution.{Returned, Trapped, Spent}
 use Rattle.machine_steps.specs.declared.frame.Label.{Label}
-use Rattle.machine_steps.specs.Steps.{Step, Go, Stop, returning, calling, branching, closing, choosing}
+use Rattle.machine_steps.specs.Steps.{Step, Go, Stop, returning, calling, branching, closing, choosing, executing, step_of}
 use Rattle.wasm_machine.specs.declared.stack.Stack.{Stack}
 use Rattle.wasm_machine.specs.declared.stack.Turn.{Turn}
 use Rattle.wasm_machine.specs.declared.stack.Turn.TheVariants as turn
@@ -41,6 +44,15 @@ choosing_in r q end k s fuel = choosing r q end k.func k.position k.base k.depth
 abbrev pub opening_in : (position : ℕ) → Label → Stack → Store → (fuel : ℕ) → Step
 opening_in position l k s fuel = Go k.func position k.base (k.depth + 1) k.values (l ∷ k.labels) k.callers s fuel
 
--- The store of no module. What a step does to the stack alone, it does over every store: its conditions are asked over this.
-abbrev pub no_store : Store
-no_store = record { bytes = []; globals = [] }
+-- an instruction that has taken its unit
+abbrev pub executing_in : Module → Instr → Stack → Store → (fuel : ℕ) → Step
+executing_in fm i k s fuel = executing (nested_module fm) fm (Some i) k.func k.position k.base k.depth k.values k.labels k.callers s (suc fuel)
+
+abbrev pub step_in : Module → Stack → Store → (fuel : ℕ) → Step
+step_in fm k s fuel = step_of (nested_module fm) fm k.func k.position k.base k.depth k.values k.labels k.callers s fuel
+
+-- an end and an else take no unit
+abbrev pub TakesUnit : Instr → Type 0
+TakesUnit End = ⊥
+TakesUnit (Else e) = ⊥
+TakesUnit other = Unit {0}

@@ -1,19 +1,20 @@
 //! Loads, stores, and the size of the memory.
-ghost use Rattle.std.specs.Prelude.{◌≡◌, ◌≤◌, ◌<◌, ◌+◌, ◌*◌, ◌%◌, ◌^◌, [], ◌∷◌, List, ℕ, length, true, false, IfOk, OnErr, IsOk, Some, None, nat_lt, if◌then◌else◌};
+ghost use Rattle.std.specs.Prelude.{◌≡◌, ◌≢◌, ◌≤◌, ◌<◌, ◌+◌, ◌*◌, ◌%◌, ◌^◌, [], ◌∷◌, List, ℕ, length, true, false, IfOk, IfSome, OnOk, OnErr, IsOk, slice_get, Some, None, nat_lt, if◌then◌else◌};
 ghost use Rattle.wasm_types.specs.declared.instr.Instr.TheVariants.{Access, MemorySize, MemoryGrow};
 ghost use Rattle.wasm_types.specs.Spellable.{width, is_access_op};
-ghost use Rattle.wasm_types.specs.Back.{nested_module};
+ghost use Rattle.wasm_types.specs.Modules.{NestedModule};
+ghost use Rattle.wasm_types.specs.declared.module.Limits.{Limits};
+ghost use Rattle.code_specs.specs.Stores.{greatest_pages};
 ghost use Rattle.code_specs.specs.Effects.{Stuck, bare, effect_of};
-ghost use Rattle.wasm_memory.specs.Pools.{IsThere, IsUnshared};
+ghost use Rattle.wasm_memory.specs.Pools.{bytes_in, IsThere, IsUnshared, KeepsOthers, KeepsUnshared};
 ghost use Rattle.wasm_machine.specs.Opcodes.{is_load_op, loaded_type, width_of, with_sign, done};
-ghost use Rattle.wasm_machine.specs.Instances.{store_in, IsMadeFrom, Leaves};
+ghost use Rattle.wasm_machine.specs.Instances.{store_in, Larger};
 
 use crate::instance::Instance;
 use crate::stack::{Values, pop, push};
 use code_specs::TrapKind;
 use std::alloc::{AllocError, Global};
 use wasm_memory::Pool;
-use wasm_types::Module;
 
 #[inline(always)]
 fn access_width(op: u8) -> u8
@@ -61,4 +62,128 @@ fn low_of(op: u8, n: u64) -> u64
     } else {
         n % 0x1_0000_0000
     }
+}
+
+/// A load, or the reason for a trap.
+#[inline(always)]
+pub(crate) fn load(
+    values: &mut Values,
+    instance: &Instance,
+    pool: &Pool,
+    op: u8,
+    offset: u32,
+) -> Option<TrapKind>
+    requires op { is_access_op op ≡ true }
+    requires load { is_load_op op ≡ true }
+    requires there { values.old ≢ [] }
+    requires memory { IsThere pool.now instance.now.memory }
+    requires pages { instance.now.memory.pages ≤ 256 }
+    requires room { length values.old ≤ 1048576 }
+    ensures { (m : NestedModule) (l : Limits) (align : ℕ) → slice_get m.memories 0 ≡ Some l
+        → effect_of bare m (Access op align offset) values.old (store_in pool.now instance.now) ≡ done result values.new (store_in pool.now instance.now) }
+{
+    let base = pop(values);
+    if base > 0xFFFF_FFFF {
+        return Some(TrapKind::Memory);
+    }
+    match instance.memory.load(pool, base as u32, offset, access_width(op)) {
+        None => Some(TrapKind::Memory),
+        Some(n) => {
+            push(values, low_of(op, signed_number(op, n)));
+            None
+        }
+    }
+}
+
+/// A store, or the reason for a trap. It takes memory only where a page is shared.
+#[inline(always)]
+pub(crate) fn store(
+    alloc: Global,
+    values: &mut Values,
+    instance: &mut Instance,
+    pool: &mut Pool,
+    op: u8,
+    offset: u32,
+) -> Result<Option<TrapKind>, AllocError>
+    requires op { is_access_op op ≡ true }
+    requires store { is_load_op op ≡ false }
+    requires there { 2 ≤ length values.old }
+    requires memory { IsThere pool.old instance.old.memory }
+    requires pages { instance.old.memory.pages ≤ 256 }
+    ensures done { (m : NestedModule) (l : Limits) (align : ℕ) → slice_get m.memories 0 ≡ Some l
+        → IfOk result (λ t. effect_of bare m (Access op align offset) values.old (store_in pool.old instance.old) ≡ done t values.new (store_in pool.new instance.new)) }
+    ensures trapped { IfOk result (λ t. IfSome t (λ _. store_in pool.new instance.new ≡ store_in pool.old instance.old)) }
+    ensures memory { instance.new.memory ≡ instance.old.memory }
+    ensures globals { instance.new.globals.items ≡ instance.old.globals.items }
+    ensures table { instance.new.table.items ≡ instance.old.table.items }
+    ensures still_there { IsThere pool.new instance.new.memory }
+    ensures others { KeepsOthers pool.old pool.new instance.old.memory.table }
+    ensures still_unshared { KeepsUnshared pool.old pool.new }
+    ensures room { IsUnshared pool.old instance.old.memory.table → IsOk result }
+{
+    let n = pop(values);
+    let base = pop(values);
+    if base > 0xFFFF_FFFF {
+        return Ok(Some(TrapKind::Memory));
+    }
+    let width = access_width(op);
+    if instance
+        .memory
+        .store(alloc, pool, base as u32, offset, width, n)?
+    {
+        Ok(None)
+    } else {
+        Ok(Some(TrapKind::Memory))
+    }
+}
+
+/// The size of the memory in pages.
+#[inline(always)]
+pub(crate) fn memory_size(values: &mut Values, instance: &Instance, pool: &Pool)
+    requires memory { IsThere pool.now instance.now.memory }
+    requires room { length values.old ≤ 1048576 }
+    ensures { (m : NestedModule) (l : Limits) → slice_get m.memories 0 ≡ Some l
+        → effect_of bare m MemorySize values.old (store_in pool.now instance.now) ≡ done None values.new (store_in pool.now instance.now) }
+{
+    push(values, u64::from(instance.memory.size()));
+}
+
+/// Grows the memory, where it may. It takes memory only where pages are added.
+pub(crate) fn memory_grow(
+    alloc: Global,
+    values: &mut Values,
+    instance: &mut Instance,
+    pool: &mut Pool,
+) -> Result<(), AllocError>
+    requires there { values.old ≢ [] }
+    requires memory { IsThere pool.old instance.old.memory }
+    requires within { instance.old.memory.pages ≤ instance.old.memory.greatest }
+    requires room { length values.old ≤ 1048576 }
+    ensures done { (m : NestedModule) (l : Limits) → slice_get m.memories 0 ≡ Some l → instance.old.memory.greatest ≡ greatest_pages m
+        → OnOk result (effect_of bare m MemoryGrow values.old (store_in pool.old instance.old) ≡ done None values.new (store_in pool.new instance.new)) }
+    ensures larger { (m : NestedModule) (l : Limits) → slice_get m.memories 0 ≡ Some l → instance.old.memory.greatest ≡ greatest_pages m
+        → OnErr result (Larger (length (bytes_in pool.old instance.old.memory)) (effect_of bare m MemoryGrow values.old (store_in pool.old instance.old))) }
+    ensures within { instance.new.memory.pages ≤ instance.new.memory.greatest }
+    ensures greatest { instance.new.memory.greatest ≡ instance.old.memory.greatest }
+    ensures same_table { instance.new.memory.table ≡ instance.old.memory.table }
+    ensures globals { instance.new.globals.items ≡ instance.old.globals.items }
+    ensures table { instance.new.table.items ≡ instance.old.table.items }
+    ensures still_there { IsThere pool.new instance.new.memory }
+    ensures others { KeepsOthers pool.old pool.new instance.old.memory.table }
+    ensures still_unshared { KeepsUnshared pool.old pool.new }
+{
+    let more = pop(values);
+    if more == 0 {
+        push(values, u64::from(instance.memory.size()));
+        return Ok(());
+    }
+    if more > 0xFFFF_FFFF {
+        push(values, 0xFFFF_FFFF);
+        return Ok(());
+    }
+    match instance.memory.grow(alloc, pool, more as u32)? {
+        Some(pages) => push(values, u64::from(pages)),
+        None => push(values, 0xFFFF_FFFF),
+    }
+    Ok(())
 }

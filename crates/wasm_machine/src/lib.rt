@@ -5,8 +5,10 @@
 mod access;
 mod instance;
 mod numeric;
+mod plain;
 mod room;
 mod stack;
+mod step;
 
 pub use instance::Instance;
 pub use stack::Stack;

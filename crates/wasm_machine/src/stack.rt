@@ -7,7 +7,7 @@ ghost use Rattle.code_specs.specs.Execution.{Stuck};
 ghost use Rattle.machine_steps.specs.Steps.{Stop, cut, block_label};
 ghost use Rattle.machine_steps.specs.Modules.{IsReady};
 ghost use Rattle.machine_steps.specs.Rooms.{HasRoom};
-ghost use Rattle.wasm_machine.specs.Seen.{values_of, seen, no_store, returning_in, calling_in, branching_in, closing_in, choosing_in, opening_in};
+ghost use Rattle.wasm_machine.specs.Seen.{values_of, seen, returning_in, calling_in, branching_in, closing_in, choosing_in, opening_in};
 
 use crate::room::Room;
 use code_specs::TrapKind;
@@ -229,7 +229,7 @@ impl Stack {
     /// The function returns.
     #[inline(always)]
     pub(crate) fn leave(&mut self, module: &Module) -> Turn
-        requires fine { returning_in module.now self.old no_store 0 ≢ Stop Stuck }
+        requires fine { (s : Store) × (fuel : ℕ) × (returning_in module.now self.old s fuel ≢ Stop Stuck) }
         requires room { HasRoom self.old.depth self.old.values self.old.labels self.old.callers }
         requires ready { IsReady module.now }
         ensures { (s : Store) (fuel : ℕ) → returning_in module.now self.old s fuel ≡ seen result self.new s fuel }
@@ -253,7 +253,7 @@ impl Stack {
     /// A branch.
     #[inline(always)]
     pub(crate) fn branch(&mut self, module: &Module, label: u32) -> Turn
-        requires fine { branching_in module.now label self.old no_store 0 ≢ Stop Stuck }
+        requires fine { (s : Store) × (fuel : ℕ) × (branching_in module.now label self.old s fuel ≢ Stop Stuck) }
         requires room { HasRoom self.old.depth self.old.values self.old.labels self.old.callers }
         requires ready { IsReady module.now }
         ensures { (s : Store) (fuel : ℕ) → branching_in module.now label self.old s fuel ≡ seen result self.new s fuel }
@@ -276,7 +276,7 @@ impl Stack {
     /// A list ends, and this position comes next.
     #[inline(always)]
     pub(crate) fn close(&mut self, module: &Module, position: usize) -> Turn
-        requires fine { closing_in module.now position self.old no_store 0 ≢ Stop Stuck }
+        requires fine { (s : Store) × (fuel : ℕ) × (closing_in module.now position self.old s fuel ≢ Stop Stuck) }
         requires room { HasRoom self.old.depth self.old.values self.old.labels self.old.callers }
         requires ready { IsReady module.now }
         ensures { (s : Store) (fuel : ℕ) → closing_in module.now position self.old s fuel ≡ seen result self.new s fuel }
@@ -305,7 +305,7 @@ impl Stack {
 
     /// A call.
     pub(crate) fn call(&mut self, module: &Module, index: u32) -> Turn
-        requires fine { calling_in module.now index self.old no_store 0 ≢ Stop Stuck }
+        requires fine { (s : Store) × (fuel : ℕ) × (calling_in module.now index self.old s fuel ≢ Stop Stuck) }
         requires position { self.old.position + 1 < 2 ^ 64 }
         requires room { HasRoom self.old.depth self.old.values self.old.labels self.old.callers }
         requires ready { IsReady module.now }
