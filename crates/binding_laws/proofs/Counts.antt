@@ -123,5 +123,5 @@ pub all_within : (g : Guest) (c : Call) → sum (used_by g c) ≤ most_functions
 all_within g c =
     let used : sum (used_by g c) ≤ length (used_by g c) * g.budget = sum_by-le (λ n. n) g.budget (used_by g c) (each_within g c) in
     let most : length (used_by g c) * g.budget ≤ most_functions c * g.budget
-        = mul-le (length (used_by g c)) g.budget (most_functions c) g.budget (few_functions g c) (omega arith) in
+    = mul-le (length (used_by g c)) g.budget (most_functions c) g.budget (few_functions g c) (omega arith) in
     omega (arith, used, most)

@@ -3,7 +3,11 @@
 
 mod bound;
 mod exports;
+mod laws;
+mod state;
 mod types;
 
 pub use binding_specs::{BindError, Function};
 pub use bound::{check, check_module};
+pub use laws::states_of_guests_are_those_of_units;
+pub use state::GuestState;
