@@ -1,7 +1,9 @@
 -- How many functions a call runs.
-use Rattle.std.specs.Prelude.{ℕ, ◌+◌, ◌-◌, ◌≤◌, Bool, true, false, List, [], ◌∷◌, Option, None, Some, length, nat_le, slice_get, Result}
+use Rattle.std.specs.Prelude.{ℕ, ◌+◌, ◌*◌, ◌-◌, ◌≤◌, Bool, true, false, List, [], ◌∷◌, Option, None, Some, length, nat_le, sum, slice_get, Result}
 use Rattle.std.proofs.Common.{arith}
 use Rattle.std.proofs.lemmas.List.{length-append}
+use Rattle.std.proofs.lemmas.List.Sums.{sum_by-le}
+use Rattle.std.proofs.lemmas.Nat.{mul-le}
 use Rattle.fmi_states.specs.declared.status.FmiStatus.{FmiStatus}
 use Rattle.fmi_states.specs.declared.call.Call.{Call}
 use Rattle.fmi_states.specs.declared.call.Call.TheVariants as call
@@ -19,6 +21,7 @@ use Rattle.binding_specs.specs.Exchanges.{calls, the_number, statuses, status_of
 use Rattle.binding_specs.specs.Answers.{work_of, used_by}
 use Rattle.binding_laws.specs.Words.{most_functions}
 use Rattle.binding_laws.proofs.Follows.{follow_keeps, wanted_keeps, tested}
+use Rattle.binding_laws.proofs.Steady.{each_within}
 use Rattle.binding_laws.proofs.Kept.{number_keeps, reply_keeps}
 
 abbrev AtMost : ℕ → Work → Type 0
@@ -114,3 +117,11 @@ few g c w h =
 pub few_functions : (g : Guest) (c : Call) → length (used_by g c) ≤ most_functions c
 unfolding used_by
 few_functions g c = few g c (work_of g) (omega arith)
+
+-- all together, where each uses a whole budget at most
+pub all_within : (g : Guest) (c : Call) → sum (used_by g c) ≤ most_functions c * g.budget
+all_within g c =
+    let used : sum (used_by g c) ≤ length (used_by g c) * g.budget = sum_by-le (λ n. n) g.budget (used_by g c) (each_within g c) in
+    let most : length (used_by g c) * g.budget ≤ most_functions c * g.budget
+    = mul-le (length (used_by g c)) g.budget (most_functions c) g.budget (few_functions g c) (omega arith) in
+    omega (arith, used, most)

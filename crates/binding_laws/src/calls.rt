@@ -1,5 +1,5 @@
 //! Laws of what calls cost, change and keep.
-ghost use Rattle.std.specs.Prelude.{◌≡◌, ◌≤◌, All, true, false, length};
+ghost use Rattle.std.specs.Prelude.{◌≡◌, ◌*◌, ◌≤◌, All, true, false, length, sum};
 ghost use Rattle.fmi_states.specs.declared.status.FmiStatus.{FmiStatus};
 ghost use Rattle.fmi_states.specs.declared.call.Call.{Call};
 ghost use Rattle.fmi_states.specs.declared.call.Call.TheVariants.{Instantiate};
@@ -14,6 +14,7 @@ ghost use Rattle.binding_laws.specs.Words.{HasArea, is_instantiation, most_funct
 pub fn each_function_has_a_budget_of_its_own()
     ensures each { (g : Guest) (c : Call) → All (λ n. n ≤ g.budget) (used_by g c) }
     ensures few { (g : Guest) (c : Call) → length (used_by g c) ≤ most_functions c }
+    ensures total { (g : Guest) (c : Call) → sum (used_by g c) ≤ most_functions c * g.budget }
 {}
 
 /// A call changes nothing but the guest's phase, area, memory and globals, and no memory becomes smaller.

@@ -1,2 +1,3 @@
 -- Words of this crate's clauses.
 pub mod Faults
+pub mod States

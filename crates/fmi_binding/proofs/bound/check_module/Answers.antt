@@ -1,7 +1,7 @@
 use Rattle.std.proofs.Common.{rules}
 use Rattle.wasm_types.specs.Back.{nested_module}
 use Rattle.fmi_binding.proofs.Rows.{by_first, by_others, if_ok, if_err}
-use Rattle.fmi_binding.proofs.check.check_module.Goals as goal
+use Rattle.fmi_binding.proofs.bound.check_module.Goals as goal
 
 pub returns-in_err-check_memory-clause-refused : goal.returns-in_err-check_memory-clause-refused
 returns-in_err-check_memory-clause-refused c =

@@ -7,7 +7,9 @@ ghost use Rattle.fmi_binding.specs.Faults.{fault_in};
 use crate::exports::{export_named, exported_type, name_of};
 use crate::types::is_type;
 use binding_specs::{BindError, Function};
+use fmu_description::Description;
 use wasm_types::Module;
+use wasm_validate::Checked;
 
 const MEMORY: u8 = 2;
 
@@ -73,4 +75,13 @@ pub fn check_module(code: &Module) -> Result<(), BindError>
 {
     check_memory(code)?;
     check_functions(code, 1, &FUNCTIONS)
+}
+
+/// Whether the module of a unit exports what its calls need. The description asks for no more: its rows are the same
+/// whatever it says.
+pub fn check(code: &Checked, _description: &Description) -> Result<(), BindError>
+    ensures bound { IfOk result (λ _. binding_fault (nested_module code.now) ≡ None) }
+    ensures refused { IfErr result (λ fault. binding_fault (nested_module code.now) ≡ Some fault) }
+{
+    check_module(code.module())
 }

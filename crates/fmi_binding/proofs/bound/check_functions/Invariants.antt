@@ -2,7 +2,7 @@ use Rattle.std.proofs.Common.{◌≡◌, ◌+◌, length}
 use Rattle.std.specs.Prelude.{map}
 use Rattle.wasm_types.specs.Back.{nested_module}
 use Rattle.binding_specs.specs.Exports.{function_row, first_fault_from}
-use Rattle.fmi_binding.proofs.check.check_functions.Given as goal
+use Rattle.fmi_binding.proofs.bound.check_functions.Given as goal
 
 abbrev pub invariant-loop-left : goal.invariant-loop-left
 invariant-loop-left l = record {
