@@ -22,7 +22,7 @@ fn the_example_is_read(rt: HostRuntime) -> Result<(), Fail> {
 }
 
 #[test]
-fn a_node_that_is_on_another_bus_detects_nothing(rt: HostRuntime) -> Result<(), Fail> {
+fn a_name_of_no_node_detects_nothing(rt: HostRuntime) -> Result<(), Fail> {
     let alloc = rt.alloc();
     let text = TWO_NODES.replacen(alloc, "by = \"lamp\"", "by = \"light\"", 1)?;
     match read_network_file(alloc, text.as_bytes()) {

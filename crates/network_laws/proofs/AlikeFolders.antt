@@ -6,14 +6,14 @@ use Rattle.unit_specs.specs.Description.{Description}
 use Rattle.document_specs.specs.Checks.{◌>>=◌, needs, each}
 use Rattle.description_specs.specs.Variables.{Refusal as description_refusal}
 use Rattle.description_specs.specs.Descriptions.{description_of}
-use Rattle.world_specs.specs.Plan.{NodePlan, Plan}
+use Rattle.world_specs.specs.Plan.{NodePlan}
 use Rattle.network_specs.specs.declared.field.NetworkField.TheVariants.{NodeBus}
 use Rattle.network_specs.specs.Settings.{Refusal, refusal}
 use Rattle.network_specs.specs.Nodes.{Node}
 use Rattle.network_specs.specs.NetworkFiles.{NetworkFile, network_file_of}
-use Rattle.network_specs.specs.Plans.{attached_buses, plan_of}
+use Rattle.network_specs.specs.Plans.{attached_buses}
 use Rattle.network_specs.specs.Judging.{refused_as}
-use Rattle.network_specs.specs.Networks.{File, Main, DescriptionOf, ModuleOf, Stop, InNetworkFile, InDescription, InModule, Unread, Folder, NodeParts, Network, read, network_file_name, description_name, module_name, node_plan_of, network_of_parts, node_parts_at, node_parts_of, network_of}
+use Rattle.network_specs.specs.Networks.{Main, DescriptionOf, ModuleOf, Stop, InNetworkFile, InDescription, InModule, Unread, Folder, NodeParts, Network, read, network_file_name, description_name, module_name, node_plan_of, network_of_parts, node_parts_at, node_parts_of, network_of}
 use Rattle.network_laws.specs.Folders.{TellAlike, without_digest}
 
 abbrev mapped : {A B E : Type 0} → (A → B) → Result A E → Result B E
@@ -98,7 +98,7 @@ module _ {Code Why : Type 0} (judge : Description → List ℕ → Result Code W
     where
       by_answers : (r s : Result (NodeParts Code) (Stop Why)) → mapped known r ≡ mapped known s
           → ((x y : NodeParts Code) → map known (xs ++ x ∷ []) ≡ map known (ys ++ y ∷ [])
-              → mapped (map known) (each (node_parts_of judge one net) (xs ++ x ∷ []) ns) ≡ mapped (map known) (each (node_parts_of judge other net) (ys ++ y ∷ []) ns))
+          → mapped (map known) (each (node_parts_of judge one net) (xs ++ x ∷ []) ns) ≡ mapped (map known) (each (node_parts_of judge other net) (ys ++ y ∷ []) ns))
           → mapped (map known) (r >>= λ x. each (node_parts_of judge one net) (xs ++ x ∷ []) ns) ≡ mapped (map known) (s >>= λ x. each (node_parts_of judge other net) (ys ++ x ∷ []) ns)
       by_answers (Ok x) (Ok y) k more =
           more x y (known_more xs x ∙ (ap (λ ks. ks ++ known x ∷ []) same ∙ (ap (λ p. map known ys ++ p ∷ []) (cc k) ∙ sym (known_more ys y))))

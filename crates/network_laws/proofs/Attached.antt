@@ -1,7 +1,7 @@
 -- The buses of the terminals of a node.
-use Rattle.std.proofs.Common.{◌≡◌, ℕ, suc, ◌+◌, ◌<◌, ◌≤◌, ◌==◌, ◌||◌, Bool, true, false, List, [], ◌∷◌, length, All, Option, Some, None, refl, sym, ap, subst, ◌∙◌, arith, cond, inl, inr}
-use Rattle.std.specs.Prelude.{option_and_then, option_map, if◌then◌else◌, map, bytes_eq}
-use Rattle.std.specs.List.{list_any, find, AllByRecursion}
+use Rattle.std.proofs.Common.{◌≡◌, ℕ, suc, ◌<◌, ◌≤◌, ◌==◌, ◌||◌, Bool, true, false, List, [], ◌∷◌, length, All, Some, None, refl, sym, ap, subst, ◌∙◌, arith, cond, inl, inr}
+use Rattle.std.specs.Prelude.{option_map, if◌then◌else◌, map}
+use Rattle.std.specs.List.{find, AllByRecursion}
 use Rattle.std.proofs.lemmas.Bool.Decides.{nat_tests}
 use Rattle.std.proofs.lemmas.List.{length-map}
 use Rattle.std.proofs.lemmas.List.Elements.{All-nil, All-cons}
@@ -11,7 +11,7 @@ use Rattle.bus_specs.specs.Bus.{among}
 use Rattle.world_specs.specs.World.{AreDistinct}
 use Rattle.description_specs.specs.Terminals.{is_named, has_name}
 use Rattle.description_laws.specs.Fit.{IsAmong}
-use Rattle.description_laws.proofs.Steps.{some_of, if_some, any_of_map}
+use Rattle.description_laws.proofs.Steps.{some_of, any_of_map}
 use Rattle.network_specs.specs.Nodes.{Attachment, stands_on}
 use Rattle.network_specs.specs.Plans.{is_attached, bus_of_terminal, buses_of_terminals, attached_buses}
 use Rattle.network_laws.proofs.InRange.{mapped_ok}

@@ -1,5 +1,5 @@
 -- The bytes under a digest tell each file.
-use Rattle.std.proofs.Common.{◌≡◌, ℕ, suc, ◌^◌, ◌<◌, List, [], ◌∷◌, ◌++◌, length, refl, sym, ap, ◌∙◌, append_assoc, arith}
+use Rattle.std.proofs.Common.{◌≡◌, ℕ, ◌^◌, ◌<◌, List, [], ◌∷◌, ◌++◌, length, refl, sym, ap, ◌∙◌, append_assoc, arith}
 use Rattle.std.specs.Prelude.{flat_map}
 use Rattle.std.specs.Int.{to_le_bytes, from_le_bytes, w64}
 use Rattle.std.proofs.lemmas.Nat.{from_le_bytes-to_le_bytes_8}
@@ -25,7 +25,7 @@ same_number n m short shorter h = sym (from_le_bytes-to_le_bytes_8 n short) ∙ 
 unframed : (xs ys a b : List ℕ) → IsShort xs → IsShort ys → framed xs ++ a ≡ framed ys ++ b → (xs ≡ ys) × (a ≡ b)
 unframed xs ys a b short shorter h =
     let spread : to_le_bytes w64 (length xs) ++ (xs ++ a) ≡ to_le_bytes w64 (length ys) ++ (ys ++ b) =
-        sym (append_assoc (to_le_bytes w64 (length xs)) xs a) ∙ (h ∙ append_assoc (to_le_bytes w64 (length ys)) ys b) in
+    sym (append_assoc (to_le_bytes w64 (length xs)) xs a) ∙ (h ∙ append_assoc (to_le_bytes w64 (length ys)) ys b) in
     let k = parted (to_le_bytes w64 (length xs)) (to_le_bytes w64 (length ys)) (xs ++ a) (ys ++ b) (eight (length xs) ∙ sym (eight (length ys))) spread in
     parted xs ys a b (same_number (length xs) (length ys) short shorter k.0) k.1
 
@@ -39,7 +39,7 @@ module _ {Code : Type 0} where
   nodes_told (n ∷ ns) [] many short shorter h = absurd (omega (arith, many))
   nodes_told (n ∷ ns) (m ∷ ms) many short shorter h =
       let spread : framed n.description_bytes ++ (framed n.code_bytes ++ flat_map both ns) ≡ framed m.description_bytes ++ (framed m.code_bytes ++ flat_map both ms) =
-          sym (append_assoc (framed n.description_bytes) (framed n.code_bytes) (flat_map both ns)) ∙ (h ∙ append_assoc (framed m.description_bytes) (framed m.code_bytes) (flat_map both ms)) in
+      sym (append_assoc (framed n.description_bytes) (framed n.code_bytes) (flat_map both ns)) ∙ (h ∙ append_assoc (framed m.description_bytes) (framed m.code_bytes) (flat_map both ms)) in
       let first = unframed n.description_bytes m.description_bytes (framed n.code_bytes ++ flat_map both ns) (framed m.code_bytes ++ flat_map both ms) short.0.0 shorter.0.0 spread in
       let second = unframed n.code_bytes m.code_bytes (flat_map both ns) (flat_map both ms) short.0.1 shorter.0.1 first.1 in
       ((first.0, second.0), nodes_told ns ms (omega (arith, many)) short.1 shorter.1 second.1)

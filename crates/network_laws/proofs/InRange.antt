@@ -1,18 +1,16 @@
 -- What holds of an accepted network file.
-use Rattle.std.proofs.Common.{◌≡◌, ℕ, suc, ◌+◌, ◌*◌, ◌-◌, ◌/◌, ◌%◌, ◌^◌, ◌<◌, ◌≤◌, ◌==◌, ◌&&◌, Bool, true, false, nat_le, nat_lt, List, [], ◌∷◌, ◌++◌, length, length-append, Option, Some, None, Result, Ok, Err, IfSome, refl, sym, ap, subst, ◌∙◌, arith, codes, div-add-mod'}
-use Rattle.std.specs.Prelude.{option_and_then, option_map, if◌then◌else◌, map, not, position, slice_get}
-use Rattle.std.specs.List.{list_any, AllByRecursion, position_or_len, prefix_len}
-use Rattle.std.proofs.lemmas.Bool.{and_parts}
+use Rattle.std.proofs.Common.{◌≡◌, ℕ, ◌*◌, ◌-◌, ◌/◌, ◌%◌, ◌^◌, ◌≤◌, true, List, [], length, Option, Some, None, Ok, IfSome, refl, subst, arith, codes, div-add-mod'}
+use Rattle.std.specs.Prelude.{option_and_then, option_map}
+use Rattle.std.specs.List.{AllByRecursion}
 use Rattle.std.proofs.lemmas.Bool.Decides.{nat_tests}
-use Rattle.toml.specs.Data.{Data, Members, get_member, as_str}
-use Rattle.document_specs.specs.Checks.{◌>>=◌, needs, needs_that, each}
-use Rattle.document_specs.specs.Documents.{that, absent_or, text, number, number_of, tables, table_at, identifier, document}
-use Rattle.world_specs.specs.World.{AreDistinct}
-use Rattle.world_specs.specs.Plan.{Between, IsBitTime}
+use Rattle.toml.specs.Data.{Data, Members, get_member}
+use Rattle.document_specs.specs.Checks.{each}
+use Rattle.document_specs.specs.Documents.{that, absent_or, number, number_of, tables}
+use Rattle.world_specs.specs.Plan.{Between}
 use Rattle.network_specs.specs.declared.field.NetworkField.TheVariants as field
-use Rattle.network_specs.specs.Settings.{Refusal, refusal, number_or, Settings, settings_of}
+use Rattle.network_specs.specs.Settings.{refusal, number_or, Settings, settings_of}
 use Rattle.network_specs.specs.Buses.{Rate, divides, rate_of_bits, rate_of, rate, optional_rate, Bus, new_bus_name, bus_at, bus_of, buses_of}
-use Rattle.description_laws.proofs.Steps.{needs_ok, that_ok, that_is, some_of, number_ok, number_at_ok, tables_ok, bind_ok, each_keeps, each_length, all_more}
+use Rattle.description_laws.proofs.Steps.{needs_ok, that_ok, that_is, some_of, number_ok, number_at_ok, tables_ok, each_keeps, each_length, all_more}
 use Rattle.network_laws.specs.Ranges.{IsRate, IsBus}
 
 -- a number that may be left out
@@ -83,7 +81,8 @@ unfolding buses_of
 buses_ranged resolution t bs h =
     let rows = needs_ok (refusal field.Bus 0) (tables 1 4 (codes "bus") t) (each (bus_of resolution) []) bs h in
     let many = tables_ok 1 4 (codes "bus") t rows.0 rows.1 in
-    let same = each_length (bus_of resolution) [] rows.0 bs rows.2 in
-    ((omega (arith, many.0, same), omega (arith, many.1, same)),
-    each_keeps (AllByRecursion (IsBus resolution)) (bus_of resolution)
-    (λ before row b all is. all_more (IsBus resolution) before b all (bus_ranged resolution (length before) before row b is)) [] rows.0 bs tt rows.2)
+    let same = each_length (bus_of resolution) [] rows.0 bs rows.2 in (
+      (omega (arith, many.0, same), omega (arith, many.1, same)),
+      each_keeps (AllByRecursion (IsBus resolution)) (bus_of resolution)
+          (λ before row b all is. all_more (IsBus resolution) before b all (bus_ranged resolution (length before) before row b is)) [] rows.0 bs tt rows.2,
+    )

@@ -1,11 +1,11 @@
 -- The nodes of an accepted network file.
-use Rattle.std.proofs.Common.{◌≡◌, ℕ, ◌+◌, ◌<◌, ◌≤◌, ◌==◌, Bool, true, false, nat_lt, List, [], ◌∷◌, ◌++◌, length, Option, Some, None, Result, Ok, Err, refl, sym, ap, subst, ◌∙◌, arith, codes}
-use Rattle.std.specs.Prelude.{option_and_then, option_map, map, not, position}
-use Rattle.std.specs.List.{list_any, AllByRecursion, position_or_len}
+use Rattle.std.proofs.Common.{◌≡◌, ℕ, ◌<◌, Bool, true, false, nat_lt, List, [], ◌∷◌, ◌++◌, length, Some, Ok, refl, sym, ap, subst, ◌∙◌, arith, codes}
+use Rattle.std.specs.Prelude.{map, not, position}
+use Rattle.std.specs.List.{AllByRecursion, position_or_len}
 use Rattle.std.proofs.lemmas.Bool.Decides.{nat_tests}
 use Rattle.toml.specs.Data.{Data, Members, as_str}
-use Rattle.document_specs.specs.Checks.{◌>>=◌, needs, needs_that, each}
-use Rattle.document_specs.specs.Documents.{that, tables, table_at, identifier}
+use Rattle.document_specs.specs.Checks.{needs_that, each}
+use Rattle.document_specs.specs.Documents.{tables, table_at, identifier}
 use Rattle.world_specs.specs.World.{AreDistinct}
 use Rattle.world_specs.specs.Plan.{Between}
 use Rattle.network_specs.specs.declared.field.NetworkField.TheVariants as field
@@ -14,7 +14,7 @@ use Rattle.network_specs.specs.Buses.{Bus, is_bus}
 use Rattle.network_specs.specs.Nodes.{Attachment, Node, entries_of, place_of_bus, bus_named, stands_on, new_bus, attachment_at, attachments_of, new_node_name, node_at, node_of, nodes_of}
 use Rattle.description_laws.specs.Fit.{AreDifferent}
 use Rattle.description_laws.proofs.Steps.{needs_ok, if_some, that_ok, that_is, some_of, tables_ok, bind_ok, each_keeps, each_length, different_more, any_of_map, map_more, all_more}
-use Rattle.network_laws.specs.Ranges.{IsNode, buses_of_node}
+use Rattle.network_laws.specs.Ranges.{IsNode}
 
 below : {A : Type 0} (p : A → Bool) (xs : List A) (i : ℕ) → position p xs ≡ Some i → i < length xs
 below p xs i h =
@@ -80,7 +80,8 @@ unfolding nodes_of
 nodes_ranged buses t ns h =
     let rows = needs_ok (refusal field.Node 0) (tables 1 32 (codes "node") t) (each (node_of buses) []) ns h in
     let many = tables_ok 1 32 (codes "node") t rows.0 rows.1 in
-    let same = each_length (node_of buses) [] rows.0 ns rows.2 in
-    ((omega (arith, many.0, same), omega (arith, many.1, same)),
-    each_keeps (AllByRecursion (IsNode (length buses))) (node_of buses)
-    (λ before row n all is. all_more (IsNode (length buses)) before n all (node_ranged buses (length before) before row n is)) [] rows.0 ns tt rows.2)
+    let same = each_length (node_of buses) [] rows.0 ns rows.2 in (
+      (omega (arith, many.0, same), omega (arith, many.1, same)),
+      each_keeps (AllByRecursion (IsNode (length buses))) (node_of buses)
+          (λ before row n all is. all_more (IsNode (length buses)) before n all (node_ranged buses (length before) before row n is)) [] rows.0 ns tt rows.2,
+    )

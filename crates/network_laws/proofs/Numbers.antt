@@ -1,11 +1,10 @@
 -- Lists of numbers: which are among them, and that each is there once.
-use Rattle.std.proofs.Common.{◌≡◌, ℕ, suc, ◌+◌, ◌<◌, ◌≤◌, ◌==◌, ◌||◌, Bool, true, false, List, [], ◌∷◌, ◌++◌, length, refl, sym, ap, subst, ◌∙◌, arith, inl, inr}
+use Rattle.std.proofs.Common.{◌≡◌, ℕ, suc, ◌≤◌, ◌==◌, ◌||◌, Bool, true, false, List, [], ◌∷◌, length, refl, sym, ap, subst, ◌∙◌, arith, inl, inr}
 use Rattle.std.specs.Prelude.{map, ◌⊎◌}
-use Rattle.std.specs.List.{list_any}
 use Rattle.std.proofs.lemmas.Bool.Decides.{nat_tests}
 use Rattle.bus_specs.specs.Bus.{among}
 use Rattle.world_specs.specs.World.{AreDistinct}
-use Rattle.description_laws.specs.Fit.{AreDifferent, IsAmong}
+use Rattle.description_laws.specs.Fit.{IsAmong}
 
 or_right : (a b : Bool) → b ≡ true → (a || b) ≡ true
 or_right true b h = refl
@@ -69,6 +68,7 @@ all_there (x ∷ xs) ys distinct within many k m =
         by_cases : (x ≡ j) ⊎ IsAmong j rest → IsAmong j rest
         by_cases (inl e) = absurd (not_among xs x distinct.0 (subst (λ n. IsAmong n xs) (sym e) there))
         by_cases (inr a) = a
+
     by_place : (rest : List ℕ) → ((j : ℕ) → IsAmong j rest → IsAmong j xs) → (x ≡ k) ⊎ IsAmong k rest → IsAmong k (x ∷ xs)
     by_place rest h (inl e) = inl e
     by_place rest h (inr a) = inr (h k a)

@@ -1,17 +1,15 @@
 -- The plan of an accepted network is well formed.
-use Rattle.std.proofs.Common.{◌≡◌, ℕ, zero, suc, ◌+◌, ◌^◌, ◌<◌, ◌≤◌, ◌==◌, ◌||◌, Bool, true, false, List, [], ◌∷◌, ◌++◌, length, All, Option, Some, None, Result, Ok, Err, IfSome, refl, sym, ap, subst, ◌∙◌, append-nil, append_assoc, arith}
+use Rattle.std.proofs.Common.{◌≡◌, ℕ, zero, suc, ◌+◌, ◌<◌, ◌≤◌, ◌==◌, ◌||◌, Bool, true, false, List, [], ◌∷◌, ◌++◌, length, All, Option, Some, None, Result, Ok, Err, IfSome, refl, sym, ap, subst, ◌∙◌, append-nil, append_assoc, arith}
 use Rattle.std.specs.Prelude.{option_map, if◌then◌else◌, map, filter, slice_get, sum_by, ⊤}
 use Rattle.std.specs.List.{AllByRecursion}
 use Rattle.std.proofs.lemmas.Bool.Decides.{nat_tests}
-use Rattle.std.proofs.lemmas.List.{length-map}
 use Rattle.std.proofs.lemmas.List.Sums.{sum_by-cons}
 use Rattle.std.proofs.lemmas.List.Elements.{All-nil, All-cons}
 use Rattle.unit_specs.specs.Description.{Description}
-use Rattle.document_specs.specs.Checks.{◌>>=◌, needs, each}
+use Rattle.document_specs.specs.Checks.{each}
 use Rattle.description_specs.specs.Descriptions.{description_of}
-use Rattle.bus_specs.specs.Bus.{ErrorEntry, Setup, among}
-use Rattle.world_specs.specs.World.{AreDistinct}
-use Rattle.world_specs.specs.Plan.{Between, IsBitTime, IsDataBitTime, IsEntry, IsBusPlan, IsNodePlan, IsPlan, AllFrom, NodePlan, BusPlan, Plan, naming_from}
+use Rattle.bus_specs.specs.Bus.{among}
+use Rattle.world_specs.specs.Plan.{IsDataBitTime, IsEntry, IsBusPlan, IsNodePlan, IsPlan, AllFrom, NodePlan, BusPlan, Plan, naming_from}
 use Rattle.network_specs.specs.declared.field.NetworkField.TheVariants.{NodeBus}
 use Rattle.network_specs.specs.Settings.{refusal}
 use Rattle.network_specs.specs.Buses.{Rate, Bus}
@@ -20,7 +18,7 @@ use Rattle.network_specs.specs.Scripts.{ScriptEntry}
 use Rattle.network_specs.specs.NetworkFiles.{NetworkFile, network_file_of}
 use Rattle.network_specs.specs.Plans.{attached_buses, entries_on, setup_of, bus_plans_from, plan_of}
 use Rattle.network_specs.specs.Judging.{refused_as}
-use Rattle.network_specs.specs.Networks.{Main, DescriptionOf, ModuleOf, Stop, InNetworkFile, InDescription, InModule, Folder, NodeParts, Network, read, network_file_name, description_name, module_name, node_plan_of, network_of_parts, node_parts_at, node_parts_of, network_of}
+use Rattle.network_specs.specs.Networks.{Main, DescriptionOf, ModuleOf, InNetworkFile, InDescription, InModule, Folder, NodeParts, Network, read, network_file_name, description_name, module_name, node_plan_of, network_of_parts, node_parts_at, node_parts_of, network_of}
 use Rattle.description_laws.proofs.Steps.{needs_ok, bind_ok}
 use Rattle.network_laws.specs.Ranges.{IsRate, IsBus, IsNode, IsOn, IsScriptEntry, IsInRange}
 use Rattle.network_laws.proofs.Numbers.{itself}
@@ -148,14 +146,16 @@ bus_count place es nodes (b ∷ bs) = ap suc (bus_count (place + 1) es nodes bs)
 buses_planned : (p : Plan) (place buses : ℕ) (nodes : List Node) (es : List ScriptEntry) → ((bus i : ℕ) → IsOn nodes bus i → among (naming_from 0 p.nodes bus) i ≡ true)
     → AllByRecursion (IsScriptEntry buses nodes) es → (bs : List Bus) → AllByRecursion (IsBus p.resolution) bs → AllFrom place (IsBusPlan p) (bus_plans_from place es p.nodes bs)
 buses_planned p place buses nodes es h script [] all = tt
-buses_planned p place buses nodes es h script (b ∷ bs) all =
-    (record {
-      number = refl;
-      rate = all.0.rate;
-      fd_rate = data_time p.resolution b.fd_rate all.0.fd_rate;
-      members = refl;
-      errors = entries_planned buses nodes (naming_from 0 p.nodes place) place (h place) es script;
-    }, buses_planned p (place + 1) buses nodes es h script bs all.1)
+buses_planned p place buses nodes es h script (b ∷ bs) all = (
+  record {
+    number = refl;
+    rate = all.0.rate;
+    fd_rate = data_time p.resolution b.fd_rate all.0.fd_rate;
+    members = refl;
+    errors = entries_planned buses nodes (naming_from 0 p.nodes place) place (h place) es script;
+  },
+  buses_planned p (place + 1) buses nodes es h script bs all.1,
+)
 
 -- ---- the nodes
 

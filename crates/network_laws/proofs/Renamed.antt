@@ -1,6 +1,5 @@
 -- A folder under another name is the same network.
-use Rattle.std.proofs.Common.{◌≡◌, ℕ, List, [], ◌∷◌, ◌++◌, length, Result, Ok, Err, refl, sym, ap, ◌∙◌, codes, append_assoc}
-use Rattle.std.specs.Prelude.{if◌then◌else◌}
+use Rattle.std.proofs.Common.{◌≡◌, ℕ, List, [], ◌∷◌, ◌++◌, length, Result, Ok, refl, sym, ap, ◌∙◌, codes, append_assoc}
 use Rattle.unit_specs.specs.Description.{Description}
 use Rattle.document_specs.specs.Checks.{◌>>=◌, needs, each}
 use Rattle.description_specs.specs.Descriptions.{description_of}
@@ -10,7 +9,7 @@ use Rattle.network_specs.specs.Nodes.{Node}
 use Rattle.network_specs.specs.NetworkFiles.{network_file_of}
 use Rattle.network_specs.specs.Plans.{attached_buses}
 use Rattle.network_specs.specs.Judging.{refused_as}
-use Rattle.network_specs.specs.Networks.{File, Main, DescriptionOf, ModuleOf, Stop, InNetworkFile, InDescription, Folder, NodeParts, Network, read, network_file_name, description_name, module_name, network_of_parts, node_parts_at, node_parts_of, network_of}
+use Rattle.network_specs.specs.Networks.{File, Main, DescriptionOf, ModuleOf, InNetworkFile, InDescription, Folder, read, network_file_name, description_name, module_name, network_of_parts, node_parts_at, node_parts_of, network_of}
 use Rattle.network_laws.specs.Folders.{HoldTheSame}
 use Rattle.network_laws.proofs.Rows.{bind_same}
 

@@ -1,14 +1,13 @@
 -- The errors of an accepted network file, and the file as a whole.
-use Rattle.std.proofs.Common.{◌≡◌, ℕ, ◌+◌, ◌^◌, ◌<◌, ◌≤◌, ◌&&◌, Bool, true, false, nat_le, List, [], ◌∷◌, ◌++◌, length, get_or, Option, Some, None, Result, Ok, Err, IfSome, refl, sym, ap, subst, ◌∙◌, arith, codes}
-use Rattle.std.specs.Prelude.{option_and_then, option_map, if◌then◌else◌, position, slice_get}
+use Rattle.std.proofs.Common.{◌≡◌, ℕ, ◌^◌, ◌≤◌, Bool, true, false, nat_le, List, [], length, get_or, Option, Some, None, Ok, IfSome, subst, arith, codes}
+use Rattle.std.specs.Prelude.{option_and_then, option_map, if◌then◌else◌, position}
 use Rattle.std.specs.List.{AllByRecursion}
 use Rattle.std.proofs.lemmas.Bool.{and_parts}
 use Rattle.std.proofs.lemmas.Option.{slice_get-get_or}
 use Rattle.std.proofs.lemmas.List.Quantifiers.{position-Some}
 use Rattle.toml.specs.Data.{Data, Members, no_members, member, get_member}
-use Rattle.document_specs.specs.Checks.{◌>>=◌, needs, needs_that, each}
+use Rattle.document_specs.specs.Checks.{needs_that, each}
 use Rattle.document_specs.specs.Documents.{text, number, optional_tables, absent_or, tables_in, document}
-use Rattle.world_specs.specs.Plan.{Between}
 use Rattle.network_specs.specs.declared.field.NetworkField.TheVariants as field
 use Rattle.network_specs.specs.Settings.{refusal, number_or, settings_of}
 use Rattle.network_specs.specs.Buses.{Bus, buses_of}
@@ -74,10 +73,11 @@ script_ranged : (buses : List Bus) (nodes : List Node) (t : Members) (es : List 
 unfolding script_of
 script_ranged buses nodes t es h =
     let rows = needs_ok (refusal field.Error 0) (optional_tables 1024 (codes "error") t) (each (entry_of buses nodes) []) es h in
-    let same = each_length (entry_of buses nodes) [] rows.0 es rows.2 in
-    (omega (arith, few 1024 (codes "error") t rows.0 rows.1, same),
-    each_keeps (AllByRecursion (IsScriptEntry (length buses) nodes)) (entry_of buses nodes)
-    (λ before row e all is. all_more (IsScriptEntry (length buses) nodes) before e all (entry_ranged buses nodes (length before) row e is)) [] rows.0 es tt rows.2)
+    let same = each_length (entry_of buses nodes) [] rows.0 es rows.2 in (
+      omega (arith, few 1024 (codes "error") t rows.0 rows.1, same),
+      each_keeps (AllByRecursion (IsScriptEntry (length buses) nodes)) (entry_of buses nodes)
+          (λ before row e all is. all_more (IsScriptEntry (length buses) nodes) before e all (entry_ranged buses nodes (length before) row e is)) [] rows.0 es tt rows.2,
+    )
 
 document_ranged : (t : Members) (f : NetworkFile) → network_file_in t ≡ Ok f → IsInRange f
 unfolding network_file_in

@@ -1,27 +1,27 @@
 -- An accepted description is one of a plan, and the names of its terminals all differ.
-use Rattle.std.proofs.Common.{◌≡◌, ℕ, ◌+◌, ◌^◌, ◌<◌, ◌≤◌, ◌==◌, ◌||◌, Bool, true, false, nat_le, List, [], ◌∷◌, ◌++◌, length, All, Option, Some, Result, Ok, Err, refl, sym, ap, subst, ◌∙◌, arith, codes}
-use Rattle.std.specs.Prelude.{option_and_then, not, bytes_eq, flat_map}
-use Rattle.std.specs.List.{list_any, AllByRecursion}
+use Rattle.std.proofs.Common.{◌≡◌, ℕ, ◌==◌, ◌||◌, Bool, true, false, nat_le, List, [], ◌∷◌, ◌++◌, length, All, Ok, refl, sym, ap, subst, ◌∙◌, codes}
+use Rattle.std.specs.Prelude.{not, bytes_eq, flat_map}
+use Rattle.std.specs.List.{AllByRecursion}
 use Rattle.std.proofs.lemmas.List.Elements.{All-nil, All-cons}
 use Rattle.std.proofs.lemmas.List.Folds.{list_any-append}
 use Rattle.std.proofs.lemmas.Slice.Eq.{bytes_eq-Decides}
 use Rattle.toml.specs.Data.{Members}
-use Rattle.document_specs.specs.Checks.{◌>>=◌, needs, needs_that, each}
+use Rattle.document_specs.specs.Checks.{needs_that, each}
 use Rattle.document_specs.specs.Documents.{document, tables, identifier}
 use Rattle.unit_specs.specs.Description.{Terminal, Description}
 use Rattle.bus_specs.specs.Bus.{among}
 use Rattle.world_specs.specs.World.{AreDistinct}
-use Rattle.world_specs.specs.Plan.{Between, references, IsTerminal, IsDescription}
+use Rattle.world_specs.specs.Plan.{references, IsTerminal, IsDescription}
 use Rattle.description_specs.specs.declared.field.Field.TheVariants as field
 use Rattle.description_specs.specs.declared.variable.Causality.TheVariants.{Input, Output}
 use Rattle.description_specs.specs.declared.variable.BinaryVariable.{BinaryVariable}
-use Rattle.description_specs.specs.Variables.{Refusal, refusal}
+use Rattle.description_specs.specs.Variables.{refusal}
 use Rattle.description_specs.specs.Clocks.{clocks_of, countdown_references}
 use Rattle.description_specs.specs.Binaries.{binaries_of}
 use Rattle.description_specs.specs.Terminals.{is_named, has_name, new_name, data_at, its_clock, terminal_at, terminal_of, terminals_of}
 use Rattle.description_specs.specs.Descriptions.{description_of, description_in, head_of, most_bytes}
-use Rattle.description_laws.specs.Fit.{AreDifferent, references_of, of_terminals}
-use Rattle.description_laws.specs.Ranges.{IsReference, IsTerminalInRange, IsInRange}
+use Rattle.description_laws.specs.Fit.{AreDifferent, of_terminals}
+use Rattle.description_laws.specs.Ranges.{IsReference, IsTerminalInRange}
 use Rattle.description_laws.proofs.Steps.{needs_ok, that_ok, bind_ok, each_keeps, either_false, flipped}
 use Rattle.description_laws.proofs.InRange.{description_ranged}
 use Rattle.description_laws.proofs.References.{references_different}
@@ -121,12 +121,17 @@ terminals_distinct : (ts : List Terminal) → AreDifferent (of_terminals ts) →
 terminals_distinct [] h = tt
 terminals_distinct (t ∷ ts) h =
     let alike = among_alike ts in
-    let second = either_false (t.tx_data == t.rx_clock) ((t.tx_clock == t.rx_clock) || among (of_terminals ts) t.rx_clock) h.1.0 in
-    (among_alike_first t ts ∙ h.0,
-    (both_false (t.rx_clock == t.tx_data) ((t.tx_clock == t.tx_data) || among (flat_map references ts) t.tx_data) (flipped t.rx_clock t.tx_data second.0)
-        (ap (λ b. (t.tx_clock == t.tx_data) || b) (alike t.tx_data) ∙ h.1.1.0),
-    (ap (λ b. (t.tx_clock == t.rx_clock) || b) (alike t.rx_clock) ∙ second.1,
-    (alike t.tx_clock ∙ h.1.1.1.0, terminals_distinct ts h.1.1.1.1))))
+    let second = either_false (t.tx_data == t.rx_clock) ((t.tx_clock == t.rx_clock) || among (of_terminals ts) t.rx_clock) h.1.0 in (
+      among_alike_first t ts ∙ h.0,
+      (
+        both_false (t.rx_clock == t.tx_data) ((t.tx_clock == t.tx_data) || among (flat_map references ts) t.tx_data) (flipped t.rx_clock t.tx_data second.0)
+            (ap (λ b. (t.tx_clock == t.tx_data) || b) (alike t.tx_data) ∙ h.1.1.0),
+        (
+          ap (λ b. (t.tx_clock == t.rx_clock) || b) (alike t.rx_clock) ∙ second.1,
+          (alike t.tx_clock ∙ h.1.1.1.0, terminals_distinct ts h.1.1.1.1),
+        ),
+      ),
+    )
   where
     among_alike_first : (t : Terminal) (ts : List Terminal) → among (t.tx_data ∷ t.rx_clock ∷ t.tx_clock ∷ flat_map references ts) t.rx_data ≡ among (t.rx_clock ∷ t.tx_data ∷ t.tx_clock ∷ of_terminals ts) t.rx_data
     among_alike_first t ts =

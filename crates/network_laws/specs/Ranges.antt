@@ -1,7 +1,6 @@
 -- What holds of an accepted network file.
-use Rattle.std.specs.Prelude.{◌≡◌, ℕ, ◌^◌, ◌<◌, ◌≤◌, true, List, length, map, Option, Some, slice_get, IfSome}
+use Rattle.std.specs.Prelude.{◌≡◌, ℕ, ◌^◌, ◌<◌, ◌≤◌, true, List, length, map, Some, slice_get, IfSome}
 use Rattle.std.specs.List.{AllByRecursion}
-use Rattle.bus_specs.specs.Bus.{ErrorEntry}
 use Rattle.world_specs.specs.World.{AreDistinct}
 use Rattle.world_specs.specs.Plan.{Between, IsBitTime}
 use Rattle.network_specs.specs.Buses.{Rate, Bus}
