@@ -163,7 +163,8 @@ def item(text):
     (code,) = struct.unpack("<I", text[:4])
     try:
         demand(code in READERS)
-        return Item(READERS[code](text[8:])[0], text, READERS[code](text[8:])[1])
+        name, value = READERS[code](text[8:])
+        return Item(name, text, value)
     except ValueError:
         return Item("bad", text, None)
 
