@@ -10,6 +10,7 @@ pub mod Placing
 pub mod Entries
 pub mod Holding
 pub mod Calls
+pub mod Inputs
 pub mod TurnSteps
 pub mod TurnSeen
 pub mod Moved
