@@ -16,6 +16,7 @@ pub mod Placing
 pub mod Entries
 pub mod Holding
 pub mod Calls
+pub mod Inputs
 pub mod TurnSteps
 pub mod TurnSeen
 pub mod Moved
