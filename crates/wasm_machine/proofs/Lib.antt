@@ -4,3 +4,4 @@ mod Shapes
 mod Numbers
 mod Constants
 mod Accesses
+mod Comparing

@@ -9,6 +9,7 @@ mod plain;
 mod room;
 mod stack;
 mod step;
+mod types;
 
 pub use instance::Instance;
 pub use stack::Stack;
