@@ -1,11 +1,12 @@
 """More worlds worked out by hand: operations that aren't frames, notices, errors, and ends."""
 from world_parts import CLOSED, DISCARD, FD_FRAME, FRAME, HEAD, ONE, UNKNOWN, WAKEUP
-from world_parts import opened, plain, stepped, terminals, turn
+from world_parts import ended, opened, plain, stepped, terminals, turn
 
 OWN_RATE, OTHER_RATE = "400000000d0000000190d00300", "400000000d0000000120a10700"  # 250000, 500000
 OWN_DATA_RATE, OTHER_DATA_RATE = "400000000d0000000280841e00", "400000000d0000000207000000"  # 2000000, 7
 PASSIVE, KEEP, NOTHING_SAID = "410000000900000002", "400000000a0000000401", "010000000a0000000000"
 AT_98000 = ["interval ok 98 1000000 changed"]
+AT_1040000 = ["interval ok 1040 1000000 changed"]
 AT_5248000 = ["interval ok 5248 1000000 changed"]
 UNCHANGED = ["interval ok 0 0 unchanged"]
 OPENING = ["Instantiate", "EnterInit", "ExitInit"]
@@ -17,6 +18,12 @@ STATES = {1082000: "1082000 0 state 0 passive\n", 2426000: "2426000 0 state 0 of
 ATTEMPTS = "".join(f"{start} 0 start 0 000#\n{start + 62000} 0 fail 0 000# 1 0\n" + STATES.get(start + 62000, "")
                    for start in STARTS)
 OFF_AND_BACK = "0 0 req 0 000#\n" + ATTEMPTS + "5248000 0 back 0\n5248000 0 wake 1\nend 0 99"
+OVER_AND_PASSIVE = "0 0 req 0 000#\n" + "".join(
+    f"{start} 0 start 0 000#\n{start + 62000} 0 fail 0 000# 1 0\n" for start in STARTS[:15]) + """1020000 0 start 0 000#
+1040000 - over 0
+1082000 0 fail 0 000# 1 0
+1082000 0 state 0 passive
+end 0 50"""
 
 WORLDS = [
     ("operations without a frame, bus by bus", HEAD + ["bus 250000 0"]
@@ -116,4 +123,8 @@ end 0 1""", {
      + terminals(0) + ["clock 4"] + opened(None, intervals=AT_5248000)
      + stepped(2, None, intervals=UNCHANGED) * 32 + stepped(1, WAKEUP, intervals=UNKNOWN) + CLOSED,
      (5249000, 1000), OFF_AND_BACK, {}),
+    ("the counter of a sender that is over rises at the end of its attempt", HEAD + ["error 1 16 1 sender 10"]
+     + terminals(0) + ["clock 4"] + opened(FRAME, intervals=AT_1040000)
+     + stepped(2, None, intervals=UNCHANGED) * 15 + ended(1, None)
+     + terminals(0) + opened(None) + stepped(2, None) * 16 + CLOSED, (2000000, 1000), OVER_AND_PASSIVE, {}),
 ]
