@@ -1,19 +1,15 @@
 -- A node that may ask of a bus may ask again behind what it submits.
-use Rattle.std.proofs.Common.{append_assoc, ◌≡◌, ◌<◌, ◌≤◌, ◌+◌, ◌*◌, ◌^◌, ◌==◌, ℕ, suc, Bool, true, false, if◌then◌else◌, cond, List, [], ◌∷◌, ◌++◌, All, fold, length, arith, refl, sym, ap, ◌∙◌, subst, eq-eqb}
-use Rattle.std.specs.Prelude.{nat_le}
-use Rattle.std.proofs.lemmas.List.{append-nil}
+use Rattle.std.proofs.Common.{append_assoc, ◌≡◌, ◌<◌, ◌≤◌, ◌+◌, ◌^◌, ◌==◌, ℕ, cond, List, [], ◌∷◌, ◌++◌, All, arith, refl, ap, ◌∙◌, eq-eqb}
 use Rattle.std.proofs.lemmas.List.Elements.{All-head, All-tail}
 use Rattle.std.proofs.lemmas.List.Sums.{sum_by-append, sum_by-cons}
 use Rattle.log_specs.specs.Line.{Line}
 use Rattle.operation_specs.specs.Reading.{Item, IsWhole}
-use Rattle.bus_specs.specs.Bus.{Bus, Request, off, member_is, waiting}
+use Rattle.bus_specs.specs.Bus.{Bus, Request, waiting}
 use Rattle.bus_specs.specs.Submit.{Submission, Transmit, Keep, Discard, Wakeup, Sleep, Rate, FdRate, Declare, FormatError, Unfit, Fate, Accepted, Full, Dropped, fate, with_request, submission_of, submit}
-use Rattle.bus_specs.specs.Inbox.{take_inbox}
-use Rattle.bus_specs.specs.Sound.{Sound}
-use Rattle.bus_sound.proofs.Steady.{Steady, submit-steady, steady-live}
+use Rattle.bus_sound.proofs.Steady.{submit-steady, steady-live}
 use Rattle.bus_sound.proofs.Submitted.{submit-sound, submission_of-fits}
 use Rattle.world_specs.specs.Sessions.{submission_step}
-use Rattle.world_core.specs.Asks.{submitted, MayAsk, MaySubmit}
+use Rattle.world_core.specs.Asks.{submitted, MayAsk}
 
 waiting-push : (rs : List Request) (q : Request) (n : ℕ) → waiting (rs ++ q ∷ []) n ≡ waiting rs n + cond (q.node == n) 1 0
 waiting-push rs q n =

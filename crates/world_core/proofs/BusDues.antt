@@ -1,5 +1,5 @@
 -- The next event of a network, where it is on a bus, is what its bus does next.
-use Rattle.std.proofs.Common.{append_assoc, ◌≡◌, ◌<◌, ◌≤◌, ◌+◌, ℕ, zero, suc, ◌⊎◌, Bool, true, false, max, List, [], ◌∷◌, ◌++◌, map, filter, flat_map, filter_map, Option, Some, None, All, is_some, arith, sym, refl, ap, ◌∙◌, subst, inl, inr, slice_get}
+use Rattle.std.proofs.Common.{append_assoc, ◌≡◌, ◌<◌, ◌≤◌, ◌+◌, ℕ, ◌⊎◌, true, false, max, List, [], ◌∷◌, ◌++◌, map, filter, flat_map, filter_map, Option, Some, None, is_some, arith, sym, refl, ap, ◌∙◌, subst, inl, inr}
 use Rattle.std.specs.Prelude.{◌==◌, ◌&&◌, ◌||◌, nat_lt, option_map}
 use Rattle.std.specs.List.{cons_option}
 use Rattle.std.proofs.lemmas.List.{append-nil}
@@ -11,16 +11,15 @@ use Rattle.bus_specs.specs.Due.{Due, notice_moments, notices, returns, starts, d
 use Rattle.bus_specs.specs.Due as due
 use Rattle.bus_specs.specs.Sound.{Sound, Rise}
 use Rattle.bus_sound.proofs.Among.{Among}
-use Rattle.bus_sound.proofs.Lists.{each-All, append-among, map-among, among-append_right}
+use Rattle.bus_sound.proofs.Lists.{each-All, append-among}
 use Rattle.bus_sound.proofs.Orders.{foremost-some, foremost-among, foremost-unbeaten}
 use Rattle.bus_sound.proofs.Dues.{not-before, precedes-order}
 use Rattle.bus_sound.proofs.Foremost.{next-due-is}
 use Rattle.run_specs.specs.Order.{IsForemost}
-use Rattle.world_specs.specs.World.{World, AreDistinct}
-use Rattle.world_specs.specs.Next.{What, Finish, Return, Sessions, Start, Event, at, what_of, event_of, rank, comes_before, precedes, next_event}
-use Rattle.world_laws.proofs.Lists.{one-of-number}
-use Rattle.world_laws.proofs.Order.{next-among, next-unbeaten, no-earlier, strictly-later}
-use Rattle.world_laws.proofs.Sources.{Source, OfBus, OfMail, OfNode, source, due-enabled}
+use Rattle.world_specs.specs.World.{World}
+use Rattle.world_specs.specs.Next.{Event, what_of, event_of, rank, comes_before, precedes, next_event}
+use Rattle.world_laws.proofs.Order.{next-unbeaten, no-earlier, strictly-later}
+use Rattle.world_laws.proofs.Sources.{due-enabled}
 
 -- ---- returns stand in the order of the nodes
 

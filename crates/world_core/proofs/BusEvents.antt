@@ -1,5 +1,5 @@
 -- Events on one bus: what the next event says of its bus, and what the network keeps.
-use Rattle.std.proofs.Common.{◌≡◌, ◌<◌, ◌≤◌, ◌+◌, ℕ, List, All, Some, length, arith, sym, refl, ap, ◌∙◌, subst, map}
+use Rattle.std.proofs.Common.{◌≡◌, ◌<◌, ◌+◌, ℕ, List, All, Some, arith, sym, refl, ap, ◌∙◌, subst}
 use Rattle.fmi_states.specs.declared.ecu.Ecu.{Ghosts}
 use Rattle.bus_specs.specs.Bus.{Bus}
 use Rattle.bus_specs.specs.Due.{Due, dues, next_due}
@@ -9,8 +9,8 @@ use Rattle.bus_sound.proofs.Among.{Among, Contains-among}
 use Rattle.bus_sound.proofs.Lists.{each-All}
 use Rattle.world_specs.specs.World.{World}
 use Rattle.world_specs.specs.Next.{What, Finish, Return, Sessions, Start, Event, at, what_of, event_of, next_event}
-use Rattle.world_specs.specs.Plan.{Plan, units_of}
-use Rattle.world_specs.specs.Step.{outcome_of, world_behind}
+use Rattle.world_specs.specs.Plan.{units_of}
+use Rattle.world_specs.specs.Step.{world_behind}
 use Rattle.world_specs.specs.Fits.{Fits}
 use Rattle.world_laws.specs.Words.{AllCounted, AnswersBytes}
 use Rattle.world_laws.proofs.Order.{next-among, next-within}

@@ -1,8 +1,8 @@
 -- The clock entries behind a session: those of the node are changed, and the others are as they were.
-use Rattle.std.proofs.Common.{◌≡◌, ◌≤◌, ◌<◌, ◌+◌, ◌*◌, ℕ, zero, suc, List, [], ◌∷◌, ◌++◌, All, take, drop, length, replicate, Option, Some, None, arith, refl, sym, ap, ◌∙◌, subst, min}
-use Rattle.std.proofs.lemmas.List.{drop-take, length-take, take-append-drop}
+use Rattle.std.proofs.Common.{◌≡◌, ◌≤◌, ◌+◌, ℕ, zero, suc, List, [], ◌∷◌, ◌++◌, All, take, drop, length, replicate, Option, None, arith, refl, sym, ap, ◌∙◌}
+use Rattle.std.proofs.lemmas.List.{drop-take}
 use Rattle.std.proofs.lemmas.List.Elements.{All-head, All-tail, All-cons, All-nil}
-use Rattle.session_specs.specs.Outcome.{DueChange, Keep, Clear, At}
+use Rattle.session_specs.specs.Outcome.{DueChange, Clear}
 use Rattle.world_specs.specs.Sessions.{clock_after, clocks_after}
 use Rattle.world_core.specs.Clocks.{changed, settled}
 use Rattle.world_core.proofs.Placing.{drop-both}

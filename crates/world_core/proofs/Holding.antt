@@ -1,27 +1,23 @@
 -- A session of a node, and what holds of nodes and units behind it.
-use Rattle.std.proofs.Common.{◌≡◌, ◌≤◌, ◌<◌, ◌+◌, ◌*◌, ◌-◌, ℕ, zero, suc, true, List, [], ◌∷◌, All, drop, length, map, replicate, take, Option, Some, None, slice_get, slice_set, arith, refl, sym, ap, ◌∙◌, subst}
-use Rattle.std.proofs.lemmas.List.{length-map, length-drop}
+use Rattle.std.proofs.Common.{◌≡◌, ◌≤◌, ◌+◌, ◌-◌, ℕ, zero, suc, List, [], ◌∷◌, All, drop, length, map, replicate, take, Option, None, slice_set, arith, refl, sym, ap, ◌∙◌, subst}
+use Rattle.std.proofs.lemmas.List.{length-drop}
 use Rattle.std.proofs.lemmas.List.Elements.{All-cons, All-head, All-nil, All-tail}
-use Rattle.std.proofs.lemmas.Option.{slice_get_within}
-use Rattle.std.proofs.Math.ListN.{length-set}
-use Rattle.fmi_states.specs.declared.ecu.Ecu.{Ghosts}
 use Rattle.fmi_states.specs.declared.phase.Phase.{Phase}
-use Rattle.fmi_states.specs.declared.phase.Phase.TheVariants.{Fresh, Step}
+use Rattle.fmi_states.specs.declared.phase.Phase.TheVariants.{Step}
 use Rattle.log_specs.specs.Line.{Cause, Trap, Spent, Status2, Status3, Status4, BadReply, BadBuffer, Loop, BadInterval}
 use Rattle.session_specs.specs.Outcome.{End, SessionOut, DueChange}
 use Rattle.session_specs.specs.Outcome as session
 use Rattle.session_specs.specs.Session.{phase_behind}
 use Rattle.world_specs.specs.World as model
-use Rattle.world_specs.specs.Plan.{NodePlan, IsNodePlan, IsPlan}
+use Rattle.world_specs.specs.Plan.{NodePlan}
 use Rattle.world_specs.specs.Sessions.{clock_after, clocks_after, clocks_of, standing_after}
 use Rattle.world_core.specs.Clocks.{changed, settled}
-use Rattle.world_core.specs.Courses.{Course, standing_of}
-use Rattle.world_core.specs.Kept.{AreUnset, IsArranged, IsInPhase, Pairwise, unused}
+use Rattle.world_core.specs.Courses.{standing_of}
+use Rattle.world_core.specs.Kept.{IsInPhase, Pairwise, unused}
 use Rattle.world_core.specs.Settled.{entries_behind, standing_behind}
 use Rattle.world_core.specs.declared.standing.Standing.{Standing}
 use Rattle.world_core.specs.declared.standing.Standing.TheVariants.{New, Live, Down, Over}
 use Rattle.world_core.proofs.Entries.{changed-clocks, changed-unused, cleared-own, settled-before, settled-beyond, settled-length, settled-own, unset-clocks}
-use Rattle.world_core.proofs.Placing.{unset-at, unset-set}
 
 -- ---- one by one
 

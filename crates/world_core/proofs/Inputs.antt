@@ -1,16 +1,12 @@
 -- What a called node's session is given is what a session may be given.
-use Rattle.std.proofs.Common.{◌≡◌, ◌≤◌, ◌<◌, ◌+◌, ◌^◌, ◌||◌, ℕ, zero, suc, Bool, true, false, if◌then◌else◌, List, [], ◌∷◌, All, drop, length, map, take, get_or, Option, Some, None, slice_get, arith, refl, sym, ap, ◌∙◌, subst, eq-eqb}
+use Rattle.std.proofs.Common.{◌≡◌, ◌≤◌, ◌<◌, ◌+◌, ◌^◌, ◌||◌, ℕ, zero, suc, Bool, true, false, if◌then◌else◌, List, [], ◌∷◌, All, drop, length, map, take, get_or, Option, Some, None, slice_get, arith, refl, sym, ◌∙◌, subst, eq-eqb}
 use Rattle.std.specs.Prelude.{◌==◌, slice_index}
 use Rattle.std.specs.List.{list_any}
-use Rattle.std.proofs.lemmas.List.{drop_more, length-map, length-drop}
-use Rattle.std.proofs.lemmas.Option.{slice_get_read}
+use Rattle.std.proofs.lemmas.List.{drop_more, length-map}
 use Rattle.bus_specs.specs.Bus.{Bus}
-use Rattle.bus_specs.specs.Inbox.{has_inbox, inbox}
+use Rattle.bus_specs.specs.Inbox.{has_inbox}
 use Rattle.bus_specs.specs.Sound.{Sound}
-use Rattle.bus_sound.proofs.Among.{Among}
-use Rattle.bus_sound.proofs.Lists.{each-All}
 use Rattle.bus_sound.proofs.Boxed.{inbox-short}
-use Rattle.session_specs.specs.Outcome.{SessionIn}
 use Rattle.session_specs.specs.Session.{is_sublist}
 use Rattle.world_specs.specs.Plan.{NodePlan, IsNodePlan}
 use Rattle.world_specs.specs.Sessions.{inbox_on, ticking_from, ticks}

@@ -1,8 +1,8 @@
 -- A unit that moves leaves the others, which own other parts, as they were.
-use Rattle.std.proofs.Common.{◌≡◌, ◌<◌, ◌+◌, ◌⊎◌, ℕ, zero, suc, List, [], ◌∷◌, map, length, Option, Some, None, slice_get, slice_set, option_map, ap, sym, ◌∙◌, subst, refl, arith, inl, inr}
+use Rattle.std.proofs.Common.{◌≡◌, ◌<◌, ◌⊎◌, ℕ, zero, suc, List, [], ◌∷◌, length, Option, Some, None, slice_get, slice_set, option_map, ap, sym, ◌∙◌, subst, refl, arith, inl, inr}
 use Rattle.std.proofs.lemmas.Option.{slice_get_within}
 use Rattle.fmi_states.specs.declared.ecu.Ecu.{Ghosts}
-use Rattle.fmi_states.specs.Parts.{Among, Spares, Shares, AreDisjoint}
+use Rattle.fmi_states.specs.Parts.{Among, Spares, Shares}
 use Rattle.world_laws.proofs.Lists.{get-map}
 use Rattle.world_core.specs.Units.{AreApart, states_of}
 

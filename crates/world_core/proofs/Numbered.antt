@@ -1,5 +1,5 @@
 -- A step of one of several buses that have their places as their numbers.
-use Rattle.std.proofs.Common.{◌≡◌, ◌≤◌, ◌<◌, ◌+◌, ◌^◌, ℕ, zero, suc, Bool, true, false, if◌then◌else◌, List, [], ◌∷◌, ◌++◌, flat_map, map, All, Some, slice_get, slice_set, arith, refl, sym, ap, ◌∙◌, eq-eqb, get_or, length, subst, inl, inr}
+use Rattle.std.proofs.Common.{◌≡◌, ◌≤◌, ◌<◌, ◌+◌, ◌^◌, ℕ, zero, suc, Bool, true, false, if◌then◌else◌, List, [], ◌∷◌, ◌++◌, map, All, Some, slice_get, slice_set, arith, refl, sym, ap, ◌∙◌, eq-eqb, get_or, length, subst, inl, inr}
 use Rattle.std.specs.Prelude.{◌==◌}
 use Rattle.std.proofs.lemmas.Bool.{ne_eqb}
 use Rattle.std.proofs.lemmas.List.{append-nil, length-map}
@@ -12,7 +12,7 @@ use Rattle.bus_sound.proofs.Among.{Among, among-Contains}
 use Rattle.bus_sound.proofs.Steady.{Steady}
 use Rattle.bus_specs.specs.Inbox.{inbox}
 use Rattle.world_specs.specs.Sessions.{inbox_on}
-use Rattle.world_specs.specs.Plan.{AllFrom, BusPlan, IsBusPlan, IsNodePlan, NodePlan, Plan, IsPlan}
+use Rattle.world_specs.specs.Plan.{AllFrom, IsBusPlan, IsNodePlan, NodePlan, Plan, IsPlan}
 use Rattle.world_core.specs.Courses.{Course, plan_of_bus}
 use Rattle.world_core.specs.OnBuses.{HasNumber, AreNumbered, IsDueOn, buses_with, lines_with}
 

@@ -1,14 +1,9 @@
 -- The nodes of a network, place by place: what is read at a place, and what a change of it leaves.
-use Rattle.std.proofs.Common.{◌≡◌, ◌≤◌, ◌<◌, ◌+◌, ◌*◌, ℕ, zero, suc, List, [], ◌∷◌, ◌++◌, All, map, take, drop, length, Option, Some, None, slice_get, slice_set, arith, refl, sym, ap, ◌∙◌, subst}
-use Rattle.std.proofs.lemmas.List.{drop-take, take-append-drop, length-take, take-append-le, drop-append-le}
-use Rattle.std.proofs.Math.Seq.{take-append_seam, drop-append_seam, drop-append-add}
+use Rattle.std.proofs.Common.{◌≡◌, ◌≤◌, ◌+◌, ◌*◌, ℕ, zero, suc, List, [], ◌∷◌, All, take, drop, length, Option, Some, None, slice_get, slice_set, arith, refl, sym, ap, ◌∙◌, subst}
+use Rattle.std.proofs.lemmas.List.{drop-take}
 use Rattle.std.proofs.lemmas.List.Elements.{All-head, All-tail}
-use Rattle.session_specs.specs.Outcome.{DueChange, Keep, Clear, At}
 use Rattle.world_specs.specs.World.{Node}
-use Rattle.world_specs.specs.World as model
 use Rattle.world_specs.specs.Plan.{NodePlan}
-use Rattle.world_specs.specs.Sessions.{clock_after, clocks_after}
-use Rattle.world_core.specs.Clocks.{changed, settled}
 use Rattle.world_core.specs.Courses.{nodes_from, standing_of}
 use Rattle.world_core.specs.Kept.{AreUnset, Pairwise, unused}
 use Rattle.world_core.specs.declared.standing.Standing.{Standing}

@@ -1,7 +1,7 @@
 -- The nodes that have their turns are live on the buses that they name until their own turn is over.
-use Rattle.std.proofs.Common.{◌≡◌, ◌<◌, ◌≤◌, ◌+◌, ◌*◌, ◌^◌, ◌==◌, ◌||◌, ◌⊎◌, ℕ, zero, suc, Bool, true, false, not, if◌then◌else◌, List, [], ◌∷◌, ◌++◌, All, flat_map, map, fold, filter, length, slice_get, arith, refl, sym, ap, ◌∙◌, subst, eq-eqb, inl, inr}
-use Rattle.std.proofs.lemmas.Bool.{ne_eqb, eqb-true, both_ways}
-use Rattle.std.proofs.lemmas.List.Elements.{All-head, All-tail, All-weaker}
+use Rattle.std.proofs.Common.{◌≡◌, ◌<◌, ◌≤◌, ◌+◌, ◌*◌, ◌^◌, ◌==◌, ◌||◌, ℕ, zero, suc, Bool, true, false, if◌then◌else◌, List, [], ◌∷◌, ◌++◌, All, flat_map, map, fold, length, slice_get, arith, refl, sym, ap, ◌∙◌, subst, eq-eqb, inl, inr}
+use Rattle.std.proofs.lemmas.Bool.{ne_eqb, both_ways}
+use Rattle.std.proofs.lemmas.List.Elements.{All-head}
 use Rattle.log_specs.specs.Line.{Line}
 use Rattle.operation_specs.specs.Reading.{Item, IsWhole}
 use Rattle.bus_ops.specs.ItemsIn.{items_in}
@@ -17,14 +17,14 @@ use Rattle.bus_sound.proofs.Lists.{All-each, each-All, among-map, flat_map-among
 use Rattle.bus_sound.proofs.Left.{leave-sound}
 use Rattle.bus_sound.proofs.Members.{is_from, is_to, member_is-map}
 use Rattle.bus_sound.proofs.Quiet.{one, enter-sound, take_inbox-sound}
-use Rattle.bus_sound.proofs.Steady.{Steady, take-steady, submit-steady, enter-steady, steady-live, steady-member}
+use Rattle.bus_sound.proofs.Steady.{take-steady, submit-steady, enter-steady, steady-live, steady-member}
 use Rattle.world_specs.specs.Sessions.{is_new, items_at, items_on, submission_step, emission_step, end_step, on_each_bus, turn_step, with_entered}
 use Rattle.world_specs.specs.Plan.{AllFrom}
 use Rattle.world_specs.specs.Fits.{AreBytes}
 use Rattle.world_laws.proofs.Lists.{all-map, all-more, among-in, by-recursion, map-id, map-map, of-recursion}
 use Rattle.world_laws.proofs.OneBus.{by_end, entry, turn_on}
 use Rattle.world_core.specs.Asks.{submitted, MayAsk}
-use Rattle.world_core.specs.Bare.{Bare, IsReadyFor, EmitsBytes, AreTurns, IsExpected, IsReady}
+use Rattle.world_core.specs.Bare.{Bare, IsReadyFor, AreTurns, IsExpected, IsReady}
 use Rattle.world_core.specs.OnBuses.{AreNumbered, HasNumber}
 use Rattle.world_core.proofs.Asking.{asks-all, submit-gives}
 

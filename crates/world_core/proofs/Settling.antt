@@ -1,7 +1,7 @@
 -- Clock entries, one after the other.
-use Rattle.std.proofs.Common.{◌≡◌, ◌≤◌, ◌<◌, ◌+◌, ◌-◌, ℕ, zero, suc, Bool, true, false, if◌then◌else◌, List, [], ◌∷◌, ◌++◌, map, take, drop, set, length, get_or, replicate, Option, Some, None, arith, refl, sym, ap, ◌∙◌, append_assoc, slice_set}
+use Rattle.std.proofs.Common.{◌≡◌, ◌<◌, ◌+◌, ℕ, suc, Bool, true, false, if◌then◌else◌, List, [], ◌∷◌, ◌++◌, map, take, drop, set, length, get_or, Option, None, arith, refl, sym, ap, ◌∙◌, append_assoc}
 use Rattle.std.proofs.lemmas.List.{drop_more, length-take, take_more, take_more_set, drop-set-lt, map-append}
-use Rattle.session_specs.specs.Outcome.{DueChange, Clear}
+use Rattle.session_specs.specs.Outcome.{DueChange}
 use Rattle.world_specs.specs.Sessions.{ticks, ticking_from, clock_after}
 use Rattle.clock_queue.specs.Dues.{due_of}
 use Rattle.world_core.specs.Clocks.{changed, settled}

@@ -1,14 +1,14 @@
 -- Items, emissions and turns, one after the other.
-use Rattle.std.proofs.Common.{◌≡◌, ◌<◌, ◌+◌, ◌∷◌, ◌++◌, ℕ, Bool, true, false, if◌then◌else◌, List, [], All, fold, flat_map, map, take, drop, length, get_or, slice_get, arith, refl, sym, ap, ◌∙◌, subst}
+use Rattle.std.proofs.Common.{◌≡◌, ◌<◌, ◌+◌, ◌∷◌, ◌++◌, ℕ, true, false, List, [], All, flat_map, drop, length, get_or, slice_get, refl, sym, ap, ◌∙◌, subst}
 use Rattle.std.proofs.lemmas.List.{append-nil, drop_more}
 use Rattle.std.proofs.lemmas.List.Sums.{fold-append}
 use Rattle.std.proofs.lemmas.List.Elements.{All-head, All-tail}
 use Rattle.log_specs.specs.Line.{Line}
-use Rattle.operation_specs.specs.Reading.{Item, IsWhole}
+use Rattle.operation_specs.specs.Reading.{IsWhole}
 use Rattle.bus_ops.specs.ItemsIn.{items_in}
 use Rattle.bus_ops.specs.Views.{item_of, items_of}
 use Rattle.bus_ops.specs.declared.op.Item as code
-use Rattle.bus_specs.specs.Bus.{Bus, is, among}
+use Rattle.bus_specs.specs.Bus.{Bus, is}
 use Rattle.bus_specs.specs.Submit.{submit, submission_of}
 use Rattle.session_specs.specs.Outcome.{Emission}
 use Rattle.world_specs.specs.Fits.{AreBytes}
@@ -16,7 +16,7 @@ use Rattle.world_specs.specs.Sessions.{emission_step, items_at, items_on, submis
 use Rattle.world_core.specs.Bare.{Bare, emitted_step}
 use Rattle.world_core.specs.Asks.{MayAsk, MaySubmit, submitted}
 use Rattle.world_core.proofs.Asking.{asks-step, asks-all, lines-behind}
-use Rattle.world_core.proofs.Readying.{named, whole-in}
+use Rattle.world_core.proofs.Readying.{whole-in}
 
 module _ (now node : ℕ) where
   -- an item is submitted

@@ -1,5 +1,5 @@
 -- What sessions make of clock entries. No public clause cites this file.
-use Rattle.std.specs.Prelude.{ℕ, List, [], ◌∷◌, ◌++◌, drop, map, Option, take}
+use Rattle.std.specs.Prelude.{ℕ, List, [], ◌∷◌, ◌++◌, drop, Option, take}
 use Rattle.session_specs.specs.Outcome.{DueChange}
 use Rattle.world_specs.specs.Sessions.{clock_after}
 

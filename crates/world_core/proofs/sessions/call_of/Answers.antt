@@ -1,4 +1,4 @@
-use Rattle.std.proofs.Common.{◌≡◌, ◌||◌, ◌*◌, false, true, List, drop, length, map, take, ap, sym, ◌∙◌}
+use Rattle.std.proofs.Common.{◌||◌, ◌*◌, drop, length, map, take, ap, ◌∙◌}
 use Rattle.std.specs.Prelude.{nat_lt, slice_index}
 use Rattle.std.specs.List.{list_any}
 use Rattle.bus_specs.specs.Inbox.{has_inbox}

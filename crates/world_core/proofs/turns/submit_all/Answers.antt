@@ -1,4 +1,4 @@
-use Rattle.std.proofs.Common.{◌≡◌, ◌<◌, ◌++◌, flat_map, length, map, ap, refl, sym, ◌∙◌, arith}
+use Rattle.std.proofs.Common.{◌<◌, length, map, ap, refl, sym, ◌∙◌, arith}
 use Rattle.bus_log.specs.Lines.{line_of}
 use Rattle.bus_specs.specs.Bus.{Bus}
 use Rattle.world_specs.specs.Sessions.{emission_step}

@@ -1,4 +1,4 @@
-use Rattle.std.proofs.Common.{◌≡◌, ◌++◌, All, flat_map, length, map, take, drop}
+use Rattle.std.proofs.Common.{◌≡◌, ◌++◌, All, flat_map, map, take, drop}
 use Rattle.bus_log.specs.Lines.{line_of}
 use Rattle.bus_specs.specs.Bus.{Bus}
 use Rattle.world_specs.specs.Plan.{AllFrom}

@@ -1,4 +1,4 @@
-use Rattle.std.proofs.Common.{◌≡◌, ◌<◌, All, List, length, map, ap, ◌∙◌, sym, subst, arith}
+use Rattle.std.proofs.Common.{◌≡◌, ◌<◌, All, length, map, ap, ◌∙◌, sym, subst, arith}
 use Rattle.bus_log.specs.Lines.{line_of}
 use Rattle.bus_ops.specs.ItemsIn.{items_in}
 use Rattle.operation_specs.specs.Reading.{IsWhole}

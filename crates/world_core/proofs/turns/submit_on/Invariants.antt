@@ -1,7 +1,6 @@
-use Rattle.std.proofs.Common.{◌≡◌, All, true, drop, flat_map, map}
+use Rattle.std.proofs.Common.{◌≡◌, true, drop, flat_map, map}
 use Rattle.bus_log.specs.Lines.{line_of}
 use Rattle.bus_specs.specs.Bus.{among}
-use Rattle.session_specs.specs.Outcome.{Emission}
 use Rattle.world_specs.specs.Sessions.{items_at}
 use Rattle.world_core.specs.Asks.{MayAsk, submitted}
 use Rattle.world_core.proofs.turns.submit_on.Given as goal

@@ -1,4 +1,4 @@
-use Rattle.std.proofs.Common.{◌≡◌, ◌<◌, ◌++◌, flat_map, length, map, ap, sym, ◌∙◌, arith}
+use Rattle.std.proofs.Common.{◌<◌, length, map, ap, sym, ◌∙◌, arith}
 use Rattle.std.proofs.lemmas.List.{map-append}
 use Rattle.bus_log.specs.Lines.{line_of}
 use Rattle.bus_specs.specs.Bus.{Bus}

@@ -1,11 +1,11 @@
-use Rattle.std.proofs.Common.{◌≡◌, ◌<◌, ◌≤◌, ◌+◌, [], All, drop, fold, length, map, ap, ◌∙◌, sym, subst, arith, rules}
+use Rattle.std.proofs.Common.{◌<◌, ◌+◌, All, drop, fold, length, map, ap, ◌∙◌, sym, subst, arith}
 use Rattle.std.proofs.lemmas.List.{length-map}
 use Rattle.bus_log.specs.Lines.{line_of}
 use Rattle.world_specs.specs.Plan.{NodePlan}
 use Rattle.world_specs.specs.Sessions.{turn_step, with_entered}
 use Rattle.world_core.specs.Bare.{AreTurns, IsReady, IsReadyFor}
 use Rattle.world_core.specs.OnBuses.{AreNumbered}
-use Rattle.world_core.specs.SeenTurns.{seen, seen_turn}
+use Rattle.world_core.specs.SeenTurns.{seen}
 use Rattle.world_core.proofs.Readying.{all-entered, all-ready-for, all-turned, entered-map, entered-numbered, turn-map, turn-numbered}
 use Rattle.world_core.proofs.TurnSeen.{entered-seen, seen-as, seen-next, turns-on}
 use Rattle.world_core.proofs.turns.take_turns.Goals as goal

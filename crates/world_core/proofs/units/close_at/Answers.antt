@@ -1,8 +1,7 @@
-use Rattle.std.proofs.Common.{◌≡◌, ◌<◌, Some, slice_get, slice_set, ap, sym, ◌∙◌, subst, arith}
+use Rattle.std.proofs.Common.{◌≡◌, ◌<◌, Some, slice_get, slice_set, ap, sym, ◌∙◌, arith}
 use Rattle.std.proofs.lemmas.Option.{slice_get_read}
-use Rattle.fmi_states.specs.declared.phase.Phase.TheVariants.{Step}
 use Rattle.world_core.specs.Units.{states_of}
-use Rattle.world_core.proofs.Moved.{apart-stays, state-at, state-is, states-set}
+use Rattle.world_core.proofs.Moved.{apart-stays, state-at, states-set}
 use Rattle.world_core.proofs.units.close_at.Goals as goal
 
 pub returns-clause-closed : goal.returns-clause-closed

@@ -1,8 +1,7 @@
-use Rattle.std.proofs.Common.{◌≡◌, ◌<◌, [], true, Some, slice_get, slice_set, ap, sym, ◌∙◌, subst, arith}
+use Rattle.std.proofs.Common.{◌≡◌, ◌<◌, Some, slice_get, slice_set, ap, sym, ◌∙◌, arith}
 use Rattle.std.proofs.lemmas.Option.{slice_get_read}
-use Rattle.session_specs.specs.Session.{can_begin, is_fresh, phase_behind}
 use Rattle.world_core.specs.Units.{states_of}
-use Rattle.world_core.proofs.Moved.{apart-stays, state-at, state-is, states-set}
+use Rattle.world_core.proofs.Moved.{apart-stays, state-at, states-set}
 use Rattle.world_core.proofs.units.session_at.Goals as goal
 
 pub returns-clause-sat : goal.returns-clause-sat
