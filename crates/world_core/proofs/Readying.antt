@@ -20,7 +20,7 @@ use Rattle.bus_sound.proofs.Quiet.{one, enter-sound, take_inbox-sound}
 use Rattle.bus_sound.proofs.Steady.{take-steady, submit-steady, enter-steady, steady-live, steady-member}
 use Rattle.world_specs.specs.Sessions.{is_new, items_at, items_on, submission_step, emission_step, end_step, on_each_bus, turn_step, with_entered}
 use Rattle.world_specs.specs.Plan.{AllFrom}
-use Rattle.world_specs.specs.Fits.{AreBytes}
+use Rattle.fmi_states.specs.Reply.{AreBytes}
 use Rattle.world_laws.proofs.Lists.{all-map, all-more, among-in, by-recursion, map-id, map-map, of-recursion}
 use Rattle.world_laws.proofs.OneBus.{by_end, entry, turn_on}
 use Rattle.world_core.specs.Asks.{submitted, MayAsk}

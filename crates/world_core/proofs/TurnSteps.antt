@@ -11,7 +11,7 @@ use Rattle.bus_ops.specs.declared.op.Item as code
 use Rattle.bus_specs.specs.Bus.{Bus, is}
 use Rattle.bus_specs.specs.Submit.{submit, submission_of}
 use Rattle.session_specs.specs.Outcome.{Emission}
-use Rattle.world_specs.specs.Fits.{AreBytes}
+use Rattle.fmi_states.specs.Reply.{AreBytes}
 use Rattle.world_specs.specs.Sessions.{emission_step, items_at, items_on, submission_step}
 use Rattle.world_core.specs.Bare.{Bare, emitted_step}
 use Rattle.world_core.specs.Asks.{MayAsk, MaySubmit, submitted}

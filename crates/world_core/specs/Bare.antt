@@ -6,7 +6,7 @@ use Rattle.bus_specs.specs.Bus.{Bus, among, member_is}
 use Rattle.bus_specs.specs.Sound.{Sound}
 use Rattle.world_specs.specs.World.{Standing, New, Over}
 use Rattle.world_specs.specs.Sessions.{Turn, is_new, items_on}
-use Rattle.world_specs.specs.Fits.{AreBytes}
+use Rattle.fmi_states.specs.Reply.{AreBytes}
 use Rattle.world_core.specs.Asks.{MayAsk, submitted}
 
 -- a turn in which the state of the node's unit has no part
