@@ -3,6 +3,7 @@
 #![tactic(auto)]
 
 mod access;
+mod call;
 mod instance;
 mod numeric;
 mod plain;

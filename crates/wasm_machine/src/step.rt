@@ -226,4 +226,36 @@ impl Stack {
             },
         }
     }
+
+    /// One step: an instruction for a unit of fuel, or the end of a list for none. It takes memory only where a page is
+    /// shared or pages are added.
+    #[inline(always)]
+    pub(crate) fn step(
+        &mut self,
+        alloc: Global,
+        module: &Module,
+        instance: &mut Instance,
+        pool: &mut Pool,
+        fuel: &mut u64,
+    ) -> Result<Turn, AllocError>
+        requires fine { step_in module.now self.old (store_in pool.old instance.old) fuel.old ≢ Stop Stuck }
+        requires room { HasRoom self.old.depth self.old.values self.old.labels self.old.callers }
+        requires ready { IsReady module.now }
+        requires stands { Stands module.now pool.old instance.old }
+        ensures step { IfOk result (λ t. step_in module.now self.old (store_in pool.old instance.old) fuel.old ≡ seen t self.new (store_in pool.new instance.new) fuel.new) }
+        ensures leaves { Leaves module.now pool.old pool.new instance.old instance.new }
+        ensures larger { IsUnshared pool.old instance.old.memory.table → OnErr result (LargerStep (length (bytes_in pool.old instance.old.memory)) (step_in module.now self.old (store_in pool.old instance.old) fuel.old)) }
+    {
+        let instr = instr_at(func_at(module, self.func), self.position);
+        match instr {
+            Instr::End => return Ok(self.close(module, self.position + 1)),
+            Instr::Else { end } => return Ok(self.close(module, *end as usize + 1)),
+            _ => {}
+        }
+        if *fuel == 0 {
+            return Ok(Turn::Spent);
+        }
+        *fuel -= 1;
+        self.execute(alloc, module, instance, pool, instr)
+    }
 }
