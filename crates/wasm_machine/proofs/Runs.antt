@@ -150,3 +150,17 @@ leaves_more fm one two three i j k x y = record {
   others = λ u ne. y.others u (λ e. ne (e ∙ x.table)) ∙ x.others u ne;
   unshared = λ t h. y.unshared t (x.unshared t h);
 }
+
+-- ---- outcomes
+
+pub left_in_bits : (a : Answer ℕ) (r : Answer Value) → a ≡ bits_of_answer r → fuel_left a ≡ fuel_left r
+left_in_bits a (Returned vs s f) e = ap fuel_left e
+left_in_bits a (Trapped kind s f) e = ap fuel_left e
+left_in_bits a (Spent s) e = ap fuel_left e
+left_in_bits a Stuck e = ap fuel_left e
+
+pub never_goes : (r : Answer Value) → Stuck ≡ bits_of_answer r → r ≡ Stuck
+never_goes (Returned vs s f) e = cc
+never_goes (Trapped kind s f) e = cc
+never_goes (Spent s) e = cc
+never_goes Stuck e = refl

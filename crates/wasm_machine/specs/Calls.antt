@@ -9,6 +9,8 @@ use Rattle.code_specs.specs.Execution.{Answer, Returned, Trapped, Spent, Stuck, 
 use Rattle.code_laws.specs.Answers.{Fit}
 use Rattle.machine_steps.specs.Answers.{bits_of_answer}
 use Rattle.wasm_validate.specs.Valid.{IsChecked}
+use Rattle.wasm_machine.specs.declared.outcome.Outcome.{Outcome}
+use Rattle.wasm_machine.specs.declared.outcome.Outcome.TheVariants as outcome
 use Rattle.wasm_machine.specs.declared.stack.Turn.{Turn}
 use Rattle.wasm_machine.specs.declared.stack.Turn.TheVariants as turn
 use Rattle.wasm_machine.specs.Seen.{values_of}
@@ -36,3 +38,9 @@ KeepsSize count (Returned vs s fuel) = length s.bytes ≡ count
 KeepsSize count (Trapped kind s fuel) = length s.bytes ≡ count
 KeepsSize count (Spent s) = length s.bytes ≡ count
 KeepsSize count Stuck = Unit {0}
+
+-- the answer that an outcome is, with the store and the fuel that are left
+abbrev pub answer_with : Outcome → Store → (fuel : ℕ) → Answer ℕ
+answer_with (outcome.Value v) s fuel = Returned (values_of v) s fuel
+answer_with (outcome.Trap kind) s fuel = Trapped kind s fuel
+answer_with outcome.Spent s fuel = Spent s

@@ -4,7 +4,7 @@ use Rattle.wasm_types.specs.declared.module.Func.{Func}
 use Rattle.code_specs.specs.Stores.{Store}
 use Rattle.wasm_machine.specs.Instances.{store_in}
 use Rattle.wasm_machine.specs.declared.stack.Turn.TheVariants as turn
-use Rattle.wasm_machine.proofs.Runs.{ready_of, arguments_room, starts, stays_fine, stays_roomy, stays_on, stops, falls, never_larger, leaves_first, leaves_more}
+use Rattle.wasm_machine.proofs.Runs.{is_fine, ready_of, arguments_room, starts, stays_fine, stays_roomy, stays_on, stops, falls, never_larger, leaves_first, leaves_more}
 use Rattle.wasm_memory.specs.Pools.{bytes_in, IsUnshared}
 use Rattle.wasm_machine.proofs.call.run.Goals as goal
 
@@ -67,6 +67,10 @@ loop-end-preserved c =
 pub returns-in_default : goal.returns-in_default
 returns-in_default c = record {
   answer = stops c.args.module.now c.requires.checked c.args.func c.args.arguments.now c.requires.fits (store_in c.args.pool.now c.args.instance.now) c.args.fuel.now c.in_ok-end.end c.loop-end.stack c.step.new.self (store_in c.loop-end.pool c.loop-end.instance) (store_in c.step.new.pool c.step.new.instance) c.loop-end.fuel c.step.new.fuel c.in_default.not-Go c.loop-end.invariant.stays c.in_ok-end.ensures.step;
+  never = is_fine c.args.module.now c.requires.checked c.args.func c.args.arguments.now c.requires.fits (store_in c.args.pool.now c.args.instance.now) c.args.fuel.now;
   leaves = leaves_more c.args.module.now c.args.pool.now c.loop-end.pool c.step.new.pool c.args.instance.now c.loop-end.instance c.step.new.instance c.loop-end.invariant.leaves c.in_ok-end.ensures.leaves;
   room = λ unshared size. refl;
 }
+
+pub returns-in_err-end-clause-never : goal.returns-in_err-end-clause-never
+returns-in_err-end-clause-never c = is_fine c.args.module.now c.requires.checked c.args.func c.args.arguments.now c.requires.fits (store_in c.args.pool.now c.args.instance.now) c.args.fuel.now
