@@ -3,7 +3,7 @@ use Rattle.std.proofs.Common.{◌≡◌, ◌≢◌, ℕ, ◌+◌, ◌*◌, ◌<�
 use Rattle.std.specs.Prelude.{suc, slice_get, reverse, replicate}
 use Rattle.wasm_types.specs.declared.module.Func.{Func}
 use Rattle.wasm_types.specs.declared.module.Module.{Module}
-use Rattle.wasm_types.specs.Modules.{NestedModule, HasPlainFuncs}
+use Rattle.wasm_types.specs.Modules.{HasPlainFuncs}
 use Rattle.wasm_types.specs.Back.{nested_module}
 use Rattle.wasm_types.proofs.Spelled.{plain_module}
 use Rattle.module_specs.proofs.SpellableParts.{module_fits}
@@ -89,7 +89,7 @@ module _ (fm : Module) (c : IsChecked fm) (i : ℕ) (arguments : List ℕ) (q : 
   answered turn.Spent k s g other h = h
 
   pub stops : (t : Turn) (k new : Stack) (s u : Store) (f g : ℕ) → t ≢ turn.Go → Stays fm k s f (meant fm i arguments s0 f0) → step_in fm k s f ≡ seen t new u g → answer_at t u g ≡ bits_of_answer (meant fm i arguments s0 f0)
-  stops t k new s u f g  other x e = answered t new u g other (subst (λ st. Keeps (nested_module fm) fm st r) e (kept k s f x))
+  stops t k new s u f g other x e = answered t new u g other (subst (λ st. Keeps (nested_module fm) fm st r) e (kept k s f x))
 
 -- the measure
 abbrev pub left_of : Stack → ℕ → ℕ

@@ -7,8 +7,6 @@ use Rattle.code_specs.specs.Stores.{Store}
 use Rattle.code_specs.specs.Signatures.{Function, function_at}
 use Rattle.code_specs.specs.Execution.{Answer, Returned, Trapped, Spent, Stuck, answer_of}
 use Rattle.code_laws.specs.Answers.{Fit}
-use Rattle.machine_steps.specs.Answers.{bits_of_answer}
-use Rattle.wasm_validate.specs.Valid.{IsChecked}
 use Rattle.wasm_machine.specs.declared.outcome.Outcome.{Outcome}
 use Rattle.wasm_machine.specs.declared.outcome.Outcome.TheVariants as outcome
 use Rattle.wasm_machine.specs.declared.stack.Turn.{Turn}

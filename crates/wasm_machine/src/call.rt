@@ -75,7 +75,16 @@ impl Instance {
         ensures leaves { Leaves code.now pool.old pool.new self.old self.new }
         ensures room { IsUnshared pool.old self.old.memory.table → KeepsSize (length (bytes_in pool.old self.old.memory)) (meant code.now func arguments.now (store_in pool.old self.old) fuel.old) → IsOk result }
     {
-        match run(alloc, stack, code.module(), self, pool, func, arguments, fuel)? {
+        match run(
+            alloc,
+            stack,
+            code.module(),
+            self,
+            pool,
+            func,
+            arguments,
+            fuel,
+        )? {
             Turn::Returned(value) => Ok(Outcome::Value(value)),
             Turn::Trapped(kind) => Ok(Outcome::Trap(kind)),
             Turn::Spent => {

@@ -15,7 +15,9 @@ ghost use Rattle.wasm_machine.specs.Instances.{store_in, Stands, Leaves, LargerS
 
 use crate::instance::Instance;
 use crate::plain::plain;
-use crate::stack::{Stack, Turn, Values, func_at, get_local, instr_at, pop, push, set_local, top, type_at};
+use crate::stack::{
+    Stack, Turn, Values, func_at, get_local, instr_at, pop, push, set_local, top, type_at,
+};
 use crate::types::{function_type, is_same_type};
 use code_specs::TrapKind;
 use machine_steps::Label;
@@ -41,7 +43,11 @@ fn picked(labels: &[u32], index: u64, default: u32) -> u32
     ensures { result ≡ slice_index_or labels.now index default }
 {
     let at = index as usize;
-    if at < labels.len() { labels[at] } else { default }
+    if at < labels.len() {
+        labels[at]
+    } else {
+        default
+    }
 }
 
 // An entry of a table.

@@ -1,9 +1,6 @@
-use Rattle.std.proofs.Common.{refl, ◌≡◌, ◌∙◌, ap, sym, arith, ◌++◌, ◌+◌, length, replicate, reverse, List, ℕ, [], length-append, subst}
-use Rattle.std.proofs.lemmas.List.{length-reverse, length-replicate, append-nil}
-use Rattle.wasm_types.specs.declared.module.Func.{Func}
-use Rattle.code_specs.specs.Stores.{Store}
+use Rattle.std.proofs.Common.{refl, ◌∙◌, ap, sym, arith, ◌++◌, length, replicate, reverse, List, ℕ, length-append, subst}
+use Rattle.std.proofs.lemmas.List.{length-reverse, append-nil}
 use Rattle.wasm_machine.specs.Instances.{store_in}
-use Rattle.wasm_machine.specs.declared.stack.Turn.TheVariants as turn
 use Rattle.wasm_machine.proofs.Runs.{is_fine, ready_of, arguments_room, starts, stays_fine, stays_roomy, stays_on, stops, falls, never_larger, leaves_first, leaves_more}
 use Rattle.wasm_memory.specs.Pools.{bytes_in, IsUnshared}
 use Rattle.wasm_machine.proofs.call.run.Goals as goal

@@ -1,7 +1,6 @@
-use Rattle.std.proofs.Common.{sym, ap, ◌∙◌, ◌≡◌, ◌-◌, ℕ, arith, subst, length}
+use Rattle.std.proofs.Common.{sym, ◌≡◌, ◌-◌, arith, subst, length}
 use Rattle.std.specs.Prelude.{suc, IfOk, OnErr}
-use Rattle.wasm_memory.specs.Pools.{bytes_in}
-use Rattle.wasm_machine.specs.Seen.{seen, step_in, executing_in}
+use Rattle.wasm_machine.specs.Seen.{seen}
 use Rattle.wasm_machine.specs.Instances.{store_in, LargerStep}
 use Rattle.wasm_machine.proofs.Runs.{step_is}
 use Rattle.wasm_machine.proofs.stack.Stack.step.Goals as goal
