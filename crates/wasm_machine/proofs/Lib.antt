@@ -5,3 +5,4 @@ mod Numbers
 mod Constants
 mod Accesses
 mod Comparing
+mod Runs

@@ -3,8 +3,10 @@
 #![tactic(auto)]
 
 mod access;
+mod call;
 mod instance;
 mod numeric;
+mod outcome;
 mod plain;
 mod room;
 mod stack;
@@ -12,4 +14,5 @@ mod step;
 mod types;
 
 pub use instance::Instance;
+pub use outcome::Outcome;
 pub use stack::Stack;

@@ -15,7 +15,9 @@ ghost use Rattle.wasm_machine.specs.Instances.{store_in, Stands, Leaves, LargerS
 
 use crate::instance::Instance;
 use crate::plain::plain;
-use crate::stack::{Stack, Turn, Values, func_at, get_local, instr_at, pop, push, set_local, top, type_at};
+use crate::stack::{
+    Stack, Turn, Values, func_at, get_local, instr_at, pop, push, set_local, top, type_at,
+};
 use crate::types::{function_type, is_same_type};
 use code_specs::TrapKind;
 use machine_steps::Label;
@@ -41,7 +43,11 @@ fn picked(labels: &[u32], index: u64, default: u32) -> u32
     ensures { result ≡ slice_index_or labels.now index default }
 {
     let at = index as usize;
-    if at < labels.len() { labels[at] } else { default }
+    if at < labels.len() {
+        labels[at]
+    } else {
+        default
+    }
 }
 
 // An entry of a table.
@@ -225,5 +231,37 @@ impl Stack {
                 Some(kind) => Ok(Turn::Trapped(kind)),
             },
         }
+    }
+
+    /// One step: an instruction for a unit of fuel, or the end of a list for none. It takes memory only where a page is
+    /// shared or pages are added.
+    #[inline(always)]
+    pub(crate) fn step(
+        &mut self,
+        alloc: Global,
+        module: &Module,
+        instance: &mut Instance,
+        pool: &mut Pool,
+        fuel: &mut u64,
+    ) -> Result<Turn, AllocError>
+        requires fine { step_in module.now self.old (store_in pool.old instance.old) fuel.old ≢ Stop Stuck }
+        requires room { HasRoom self.old.depth self.old.values self.old.labels self.old.callers }
+        requires ready { IsReady module.now }
+        requires stands { Stands module.now pool.old instance.old }
+        ensures step { IfOk result (λ t. step_in module.now self.old (store_in pool.old instance.old) fuel.old ≡ seen t self.new (store_in pool.new instance.new) fuel.new) }
+        ensures leaves { Leaves module.now pool.old pool.new instance.old instance.new }
+        ensures larger { IsUnshared pool.old instance.old.memory.table → OnErr result (LargerStep (length (bytes_in pool.old instance.old.memory)) (step_in module.now self.old (store_in pool.old instance.old) fuel.old)) }
+    {
+        let instr = instr_at(func_at(module, self.func), self.position);
+        match instr {
+            Instr::End => return Ok(self.close(module, self.position + 1)),
+            Instr::Else { end } => return Ok(self.close(module, *end as usize + 1)),
+            _ => {}
+        }
+        if *fuel == 0 {
+            return Ok(Turn::Spent);
+        }
+        *fuel -= 1;
+        self.execute(alloc, module, instance, pool, instr)
     }
 }
