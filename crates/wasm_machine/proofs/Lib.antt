@@ -4,3 +4,7 @@ mod Shapes
 mod Numbers
 mod Constants
 mod Accesses
+mod Listed
+mod Counted
+mod Segments
+mod Suiting

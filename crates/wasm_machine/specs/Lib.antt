@@ -3,3 +3,4 @@ pub mod Seen
 pub mod Opcodes
 pub mod Instances
 pub mod Plain
+pub mod Making

@@ -4,11 +4,17 @@
 
 mod access;
 mod instance;
+mod making;
+mod misfit;
 mod numeric;
 mod plain;
+mod ranges;
 mod room;
 mod stack;
+mod state;
 mod step;
 
+pub use code_specs::Misfit;
 pub use instance::Instance;
+pub use misfit::fits;
 pub use stack::Stack;
