@@ -1,5 +1,5 @@
 -- Where branches and returns lead.
-use Rattle.std.proofs.Common.{◌≡◌, ◌≢◌, ℕ, zero, suc, ◌+◌, ◌-◌, ◌<◌, ◌≤◌, List, [], ◌∷◌, ◌++◌, length, Option, Some, None, refl, sym, ap, ◌∙◌, subst, ⊎_elim, arith, append_assoc, length-append, drop, Bool, true, false}
+use Rattle.std.proofs.Common.{◌≡◌, ◌≢◌, ℕ, zero, suc, ◌+◌, ◌-◌, ◌<◌, ◌≤◌, List, [], ◌∷◌, ◌++◌, length, Option, Some, None, refl, sym, ap, ◌∙◌, subst, ⊎_elim, arith, append_assoc, drop, false}
 use Rattle.std.specs.Prelude.{slice_get, reverse, nat_lt, cond}
 use Rattle.std.proofs.lemmas.Bool.{cases_lt, lt-ltb, le-ltb}
 use Rattle.std.proofs.lemmas.List.{drop-append-le, drop_at, map-append, length-reverse}
@@ -14,16 +14,16 @@ use Rattle.wasm_types.specs.Modules.{NestedModule}
 use Rattle.code_specs.specs.Values.{Value, Split, bits_of, all_bits, split, split_first}
 use Rattle.code_specs.specs.Stores.{Store}
 use Rattle.code_specs.specs.Signatures.{types_of}
-use Rattle.code_specs.specs.Execution.{Answer, Returned, Stuck, Outcome, Branch, Invoke, on_found, after_block, loop_outcome, exec, answer_with, answer_after, invoke}
+use Rattle.code_specs.specs.Execution.{Answer, Returned, Stuck, Branch, Invoke, on_found, after_block, exec, answer_with, answer_after, invoke}
 use Rattle.code_laws.proofs.Spending.{exec_spends, invoke_spends, loop_again}
 use Rattle.machine_steps.specs.declared.frame.Label.{Label}
 use Rattle.machine_steps.specs.declared.frame.Frame.{Frame}
-use Rattle.machine_steps.specs.Steps.{Step, Go, Stop, cut, where_found, where_split, with_function, back, returning, most_callers, closed_by, landing, branching}
+use Rattle.machine_steps.specs.Steps.{Go, cut, where_found, where_split, back, returning, most_callers, closed_by, landing, branching}
 use Rattle.machine_steps.specs.Nesting.{Nests}
 use Rattle.machine_steps.specs.Answers.{bits_of_answer}
 use Rattle.machine_steps.proofs.Lists.{get_front, cut_at}
 use Rattle.machine_steps.proofs.Splits.{taken}
-use Rattle.machine_steps.proofs.States.{OpenList, OpenBlock, OpenLoop, before_of, innermost, under, held, low, LabelFits, LabelsFit, Around, FrameFits, Waiting, CallersFit, leave, leave_all, resume, answer, StandsFor, Keeps, last_resume, stuck_ends, low_cons, low_length}
+use Rattle.machine_steps.proofs.States.{OpenList, OpenBlock, OpenLoop, before_of, innermost, under, held, low, LabelFits, LabelsFit, Around, Waiting, CallersFit, leave, leave_all, resume, answer, Keeps, last_resume, stuck_ends, low_cons, low_length}
 
 -- a branch comes to one of the open lists
 record Landing (b : List Instr) (fin h : ℕ) (ks : List OpenList) (n : ℕ) (mine : List Label) : Type 0 where

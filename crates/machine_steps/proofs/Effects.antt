@@ -1,7 +1,6 @@
 -- What an instruction does over bare numbers doesn't change with more of them below.
-use Rattle.std.proofs.Common.{◌≡◌, ◌≢◌, ℕ, zero, suc, ◌+◌, ◌≤◌, List, [], ◌∷◌, ◌++◌, length, Option, Some, None, refl, sym, ap, ◌∙◌, subst, Bool, true, false, arith, append_assoc, length-append}
+use Rattle.std.proofs.Common.{◌≡◌, ◌≢◌, ℕ, ◌≤◌, List, [], ◌∷◌, ◌++◌, length, Option, Some, None, refl, sym, ap, ◌∙◌, Bool, true, false, arith, append_assoc, length-append}
 use Rattle.std.specs.Prelude.{Ok, Err, cond, map, slice_get, slice_index_or, ◌==◌}
-use Rattle.std.proofs.lemmas.List.{length-map}
 use Rattle.wasm_types.specs.declared.instr.ValType.{ValType}
 use Rattle.wasm_types.specs.declared.instr.ValType.TheVariants.{I32}
 use Rattle.wasm_types.specs.declared.instr.Instr.{Instr}
@@ -9,14 +8,14 @@ use Rattle.wasm_types.specs.declared.instr.Instr.TheVariants.{Unreachable, Br, B
 use Rattle.wasm_types.specs.declared.module.FuncType.{FuncType}
 use Rattle.wasm_types.specs.Modules.{NestedModule}
 use Rattle.code_specs.specs.declared.trap.TrapKind.TheVariants as trap
-use Rattle.code_specs.specs.Values.{Value, Split, is_same, bits_of, all_bits, split, split_first}
+use Rattle.code_specs.specs.Values.{Value, Split, is_same, all_bits, split, split_first}
 use Rattle.code_specs.specs.Stores.{Store}
 use Rattle.code_specs.specs.Signatures.{Signature, is_same_type, type_of_function, signature_of}
 use Rattle.code_specs.specs.Instances.{table_of}
 use Rattle.code_specs.specs.Effects.{Effect, Continues, ReadsLocal, WritesLocal, Branches, Returns, Calls, Traps, Stuck, Meaning, typed, bare, on_split, on_one, on_i32, results, after_meaning, plain_effect, meaning_of, branch_if, selection, checked_call, indirect_call, effect_of}
 use Rattle.code_laws.specs.Bare.{bits_of_effect}
 use Rattle.code_laws.proofs.Bare.{bare_is}
-use Rattle.machine_steps.proofs.Splits.{First, first_is, Taken, taken}
+use Rattle.machine_steps.proofs.Splits.{first_is, taken}
 
 -- the effect with other numbers below its operands
 abbrev pub over_low : List ℕ → Effect ℕ → Effect ℕ

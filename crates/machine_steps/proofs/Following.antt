@@ -24,13 +24,13 @@ use Rattle.code_laws.specs.Bare.{bits_of_effect}
 use Rattle.code_laws.proofs.Spending.{exec_spends, invoke_spends, loop_again}
 use Rattle.machine_steps.specs.declared.frame.Label.{Label}
 use Rattle.machine_steps.specs.declared.frame.Frame.{Frame}
-use Rattle.machine_steps.specs.Steps.{Step, Go, Stop, where_found, where_split, taking, calling, returning, most_callers, closing, block_label, loop_label, choosing, doing, executing, step_of}
+use Rattle.machine_steps.specs.Steps.{Step, Go, Stop, where_found, where_split, taking, calling, most_callers, closing, block_label, loop_label, choosing, doing, executing, step_of}
 use Rattle.machine_steps.specs.Nesting.{Nests}
 use Rattle.machine_steps.specs.Answers.{bits_of_answer}
 use Rattle.machine_steps.proofs.Lists.{map_set, map_get, local_at, local_set, new_locals}
 use Rattle.machine_steps.proofs.Splits.{taken}
 use Rattle.machine_steps.proofs.Effects.{over_low, wide, CallsWithin, calls_within}
-use Rattle.machine_steps.proofs.States.{OpenList, OpenBlock, OpenLoop, before_of, rest_of, closer_of, innermost, under, held, low, LabelFits, LabelsFit, Matches, Same, Around, Waiting, CallersFit, leave, leave_all, resume, answer, StandsFor, Keeps, return_all, last_resume, over_answer, stuck_ends, Roomy, roomy, low_cons, low_length}
+use Rattle.machine_steps.proofs.States.{OpenList, OpenBlock, OpenLoop, before_of, rest_of, closer_of, innermost, under, held, low, LabelFits, LabelsFit, Matches, Same, Around, Waiting, CallersFit, leave, resume, answer, StandsFor, Keeps, return_all, over_answer, stuck_ends, Roomy, roomy, low_cons, low_length}
 use Rattle.machine_steps.proofs.Branching.{leaves, goes, branches}
 
 -- what a choice needs

@@ -1,5 +1,5 @@
 -- Stacks read from below.
-use Rattle.std.proofs.Common.{◌≡◌, ℕ, zero, suc, ◌+◌, ◌-◌, List, [], ◌∷◌, ◌++◌, length, Some, None, refl, sym, ap, ◌∙◌, arith, append_assoc, length-append, drop}
+use Rattle.std.proofs.Common.{◌≡◌, ℕ, zero, suc, ◌+◌, ◌-◌, List, [], ◌∷◌, ◌++◌, length, Some, refl, sym, ap, ◌∙◌, arith, append_assoc, length-append}
 use Rattle.std.specs.Prelude.{slice_get, slice_set, reverse, replicate, map}
 use Rattle.std.proofs.lemmas.List.{drop_at, reverse-append, reverse-reverse, length-reverse, map-append, replicate_more}
 use Rattle.wasm_types.specs.declared.instr.ValType.{ValType}

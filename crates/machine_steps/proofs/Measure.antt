@@ -1,8 +1,7 @@
 -- Each step takes fuel or closes a list or a function, and leaves no fewer bytes than there were.
-use Rattle.std.proofs.Common.{◌≡◌, ℕ, zero, suc, ◌+◌, ◌*◌, ◌-◌, ◌<◌, ◌≤◌, List, [], ◌∷◌, ◌++◌, length, Option, Some, None, subst, sym, arith, length-drop, length-append, drop, Bool, true, false, cond}
+use Rattle.std.proofs.Common.{◌≡◌, ℕ, zero, suc, ◌+◌, ◌*◌, ◌<◌, ◌≤◌, List, [], ◌∷◌, ◌++◌, length, Option, Some, None, subst, sym, arith, length-drop, length-append, drop, Bool, true, false, cond}
 use Rattle.std.specs.Prelude.{Ok, Err, take, negsuc, map, slice_get, slice_set, slice_index_or, reverse, replicate, nat_lt, nat_le, ◌==◌}
 use Rattle.wasm_types.specs.declared.instr.ValType.{ValType}
-use Rattle.wasm_types.specs.declared.instr.ValType.TheVariants.{I32}
 use Rattle.wasm_types.specs.declared.instr.Instr.{Instr}
 use Rattle.wasm_types.specs.declared.instr.Instr.TheVariants as instr
 use Rattle.wasm_types.specs.declared.module.FuncType.{FuncType}
@@ -24,7 +23,7 @@ use Rattle.code_laws.proofs.Kept.{KeepsMeaning}
 use Rattle.code_laws.proofs.Ranges.{numeric_keeps, load_keeps}
 use Rattle.machine_steps.specs.declared.frame.Label.{Label}
 use Rattle.machine_steps.specs.declared.frame.Frame.{Frame}
-use Rattle.machine_steps.specs.Steps.{Step, Go, Stop, where_found, where_split, with_function, back, returning, most_callers, calling, closed_by, landing, branching, closing, block_label, loop_label, other_list, choosing, doing, executing, step_of}
+use Rattle.machine_steps.specs.Steps.{Step, Go, Stop, where_found, where_split, with_function, back, returning, most_callers, calling, closed_by, landing, branching, closing, block_label, other_list, choosing, doing, executing, step_of}
 
 -- the call leaves so many bytes at least
 abbrev pub AtLeast : ℕ → Answer ℕ → Type 0

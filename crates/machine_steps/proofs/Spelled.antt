@@ -1,8 +1,8 @@
 -- What holds of modules that some bytes spell.
-use Rattle.std.proofs.Common.{◌≡◌, ℕ, zero, suc, ◌+◌, ◌-◌, ◌<◌, ◌≤◌, List, [], ◌∷◌, ◌++◌, length, Option, Some, None, refl, sym, ap, ◌∙◌, subst, arith}
+use Rattle.std.proofs.Common.{◌≡◌, ℕ, zero, suc, ◌+◌, ◌-◌, ◌≤◌, List, [], ◌∷◌, ◌++◌, length, Option, Some, None, refl, sym, ap, ◌∙◌, subst, arith}
 use Rattle.std.proofs.lemmas.Bool.{leb-true}
 use Rattle.std.proofs.lemmas.List.Elements.{recursion_from_All}
-use Rattle.std.specs.Prelude.{Ok, cond, Bool, true, false, nat_le, map, slice_get, option_map, option_and_then}
+use Rattle.std.specs.Prelude.{Ok, cond, Bool, true, false, map, slice_get, option_map, option_and_then}
 use Rattle.std.specs.List.{AllByRecursion}
 use Rattle.wasm_types.specs.declared.module.FuncType.{FuncType}
 use Rattle.wasm_types.specs.declared.module.Func.{Func}
@@ -15,11 +15,9 @@ use Rattle.wasm_types.specs.declared.instr.Instr.TheVariants.{Block, Loop, If, E
 use Rattle.wasm_types.specs.Modules.{NestedFunc, NestedModule, HasPlainFuncs, flat_func, flat_module}
 use Rattle.wasm_types.specs.Back.{nested_module}
 use Rattle.wasm_types.proofs.Whole.{body_stands, module_back}
-use Rattle.wasm_types.proofs.Spelled.{plain_module}
-use Rattle.module_specs.specs.Spelling.{SpellsEach, SpellsVector}
+use Rattle.module_specs.specs.Spelling.{SpellsEach}
 use Rattle.module_specs.specs.CodeSpelling.{SpellsCode, SpellsBody, most_nested}
 use Rattle.module_specs.specs.ModuleSpelling.{SpellsTable, SpellsMemory, SpellsSectionContent, SpellsSections, SpellsModule, Section, Custom, Types, Imports, Funcs, Tables, Memories, Globals, Exports, Start, Elements, Codes, Datas, Before, after, put, put_all, empty, most_entries, most_pages}
-use Rattle.module_specs.proofs.SpellableParts.{module_fits}
 use Rattle.code_specs.specs.declared.rule.Rule.{Rule}
 use Rattle.code_specs.specs.declared.rule.Rule.TheVariants as rule
 use Rattle.code_specs.specs.Instances.{first_failing}
@@ -217,9 +215,11 @@ code_has (IfOnly r inner rest) p s =
     (tt, all_append (flat_code inner (p + 1)) (End ∷ flat_code rest (e + 1)) (code_has inner (p + 1) s.0) (tt, code_has rest (e + 1) s.1))
 code_has (IfElse r first second rest) p s =
     let q = p + 1 + size first in
-    let e = q + 1 + size second in
-    (tt, all_append (flat_code first (p + 1)) (Else e ∷ (flat_code second (q + 1) ++ End ∷ flat_code rest (e + 1))) (code_has first (p + 1) s.0)
-    (tt, all_append (flat_code second (q + 1)) (End ∷ flat_code rest (e + 1)) (code_has second (q + 1) s.1) (tt, code_has rest (e + 1) s.2)))
+    let e = q + 1 + size second in (
+      tt,
+      all_append (flat_code first (p + 1)) (Else e ∷ (flat_code second (q + 1) ++ End ∷ flat_code rest (e + 1))) (code_has first (p + 1) s.0)
+          (tt, all_append (flat_code second (q + 1)) (End ∷ flat_code rest (e + 1)) (code_has second (q + 1) s.1) (tt, code_has rest (e + 1) s.2)),
+    )
 
 body_has : (c : Code) → HasSpellableLeaves c → AllByRecursion IsEncodable (flat_body c)
 body_has c s = all_append (flat_code c 0) (End ∷ []) (code_has c 0 s) (tt, tt)

@@ -1,5 +1,5 @@
 -- Values that are taken apart, and their bits.
-use Rattle.std.proofs.Common.{◌≡◌, ℕ, zero, suc, List, [], ◌∷◌, ◌++◌, length, Option, Some, None, refl, sym, ap, ◌∙◌, subst, Bool, true, false}
+use Rattle.std.proofs.Common.{◌≡◌, ℕ, zero, suc, List, [], ◌∷◌, ◌++◌, length, Option, Some, None, refl, ap, subst, Bool, true, false}
 use Rattle.std.specs.Prelude.{cond}
 use Rattle.wasm_types.specs.declared.instr.ValType.{ValType}
 use Rattle.code_specs.specs.Values.{Value, Split, is_of, all_bits, with_top, split, split_first}

@@ -1,7 +1,7 @@
 -- What a state of the machine stands for: a place in nested code, and all that comes behind it.
-use Rattle.std.proofs.Common.{◌≡◌, ◌≢◌, ℕ, zero, suc, ◌+◌, ◌<◌, ◌≤◌, List, [], ◌∷◌, ◌++◌, length, Option, Some, None, refl, sym, ap, ◌∙◌, ⊎_elim, arith, append_assoc, length-append, Bool, true, false}
+use Rattle.std.proofs.Common.{◌≡◌, ◌≢◌, ℕ, suc, ◌+◌, ◌<◌, ◌≤◌, List, [], ◌∷◌, ◌++◌, length, Option, Some, None, refl, sym, ap, ◌∙◌, ⊎_elim, arith, append_assoc, length-append, Bool, true, false}
 use Rattle.std.specs.Prelude.{slice_get, reverse, nat_lt, cond}
-use Rattle.std.proofs.lemmas.Bool.{cases_lt, lt-ltb, le-ltb}
+use Rattle.std.proofs.lemmas.Bool.{cases_lt, lt-ltb}
 use Rattle.std.proofs.lemmas.List.{length-reverse, map-append, length-map}
 use Rattle.wasm_types.specs.declared.instr.ValType.{ValType}
 use Rattle.wasm_types.specs.declared.instr.Instr.{Instr}
@@ -15,7 +15,7 @@ use Rattle.module_specs.specs.CodeSpelling.{most_nested}
 use Rattle.code_specs.specs.Values.{Value, bits_of, all_bits, most_slots}
 use Rattle.code_specs.specs.Stores.{Store}
 use Rattle.code_specs.specs.Signatures.{Function, function_at, types_of}
-use Rattle.code_specs.specs.Execution.{Answer, Returned, Trapped, Spent, Stuck, Outcome, Next, Branch, Return, Over, Invoke, Continuation, within, after_block, after_iteration, loop_outcome, exec, answer_after, after_call, invoke}
+use Rattle.code_specs.specs.Execution.{Answer, Returned, Trapped, Spent, Stuck, Outcome, Return, Over, Invoke, Continuation, within, after_block, after_iteration, loop_outcome, exec, answer_after, after_call, invoke}
 use Rattle.machine_steps.specs.declared.frame.Label.{Label}
 use Rattle.machine_steps.specs.declared.frame.Frame.{Frame}
 use Rattle.machine_steps.specs.Steps.{Step, Go, Stop, most_callers}

@@ -1,5 +1,5 @@
 -- A whole call: where it begins, what holds at each step, and where it ends.
-use Rattle.std.proofs.Common.{◌≡◌, ◌≢◌, ℕ, zero, suc, ◌+◌, ◌*◌, ◌-◌, ◌<◌, ◌≤◌, List, [], ◌∷◌, ◌++◌, length, Option, Some, None, refl, sym, ap, ◌∙◌, subst, arith, length-append}
+use Rattle.std.proofs.Common.{◌≡◌, ◌≢◌, ℕ, zero, suc, ◌+◌, ◌*◌, ◌≤◌, List, [], ◌∷◌, ◌++◌, length, Some, refl, sym, ap, ◌∙◌, subst, arith, length-append}
 use Rattle.std.specs.Prelude.{slice_get, reverse, replicate, map}
 use Rattle.std.proofs.lemmas.List.{append-nil, length-reverse, length-map, length-replicate}
 use Rattle.wasm_types.specs.declared.instr.ValType.{ValType}
@@ -8,21 +8,21 @@ use Rattle.wasm_types.specs.declared.module.Func.{Func}
 use Rattle.wasm_types.specs.declared.module.Module.{Module}
 use Rattle.wasm_types.specs.Nested.{Code}
 use Rattle.wasm_types.specs.Modules.{NestedModule}
-use Rattle.code_specs.specs.Values.{Value, zero_of, bits_of, all_bits, most_slots}
+use Rattle.code_specs.specs.Values.{Value, zero_of, bits_of, all_bits}
 use Rattle.code_specs.specs.Stores.{Store}
 use Rattle.code_specs.specs.Signatures.{Function, function_at}
 use Rattle.code_specs.specs.Execution.{Answer, Returned, Trapped, Spent, Stuck, arguments_of, answer_of_function, answer_of}
 use Rattle.code_specs.specs.Validity.{IsValid}
 use Rattle.code_laws.specs.Answers.{Fit}
-use Rattle.code_laws.specs.Kept.{HasBytes, LeavesBytes}
+use Rattle.code_laws.specs.Kept.{LeavesBytes}
 use Rattle.code_laws.proofs.Calling.{never_stuck}
 use Rattle.machine_steps.specs.declared.frame.Label.{Label}
 use Rattle.machine_steps.specs.declared.frame.Frame.{Frame}
-use Rattle.machine_steps.specs.Steps.{Step, Go, Stop, most_callers, step_of}
+use Rattle.machine_steps.specs.Steps.{Step, Go, Stop, step_of}
 use Rattle.machine_steps.specs.Answers.{bits_of_answer}
 use Rattle.machine_steps.specs.Rooms.{HasRoom}
 use Rattle.machine_steps.proofs.Lists.{map_reverse, new_locals}
-use Rattle.machine_steps.proofs.States.{OpenList, before_of, under, held, low, LabelFits, LabelsFit, Matches, Same, FrameFits, Waiting, CallersFit, StandsFor, Keeps, has_room, low_length}
+use Rattle.machine_steps.proofs.States.{OpenList, before_of, under, held, low, LabelsFit, Same, FrameFits, Waiting, CallersFit, StandsFor, Keeps, has_room, low_length}
 use Rattle.machine_steps.proofs.Following.{keeps}
 use Rattle.machine_steps.proofs.Measure.{AtLeast, Falls, step_falls}
 

@@ -1,5 +1,5 @@
 -- What a machine relies on of a module.
-use Rattle.std.specs.Prelude.{◌≡◌, ℕ, ◌≤◌, true, Option, Some, length, slice_get}
+use Rattle.std.specs.Prelude.{◌≡◌, ℕ, ◌≤◌, true, Some, length, slice_get}
 use Rattle.std.specs.List.{AllByRecursion}
 use Rattle.wasm_types.specs.declared.instr.Instr.{Instr}
 use Rattle.wasm_types.specs.declared.instr.Instr.TheVariants.{Numeric, Access, I32Const, I64Const}

@@ -6,9 +6,10 @@ use Rattle.wasm_types.specs.declared.instr.Instr.TheVariants.{Else, End}
 use Rattle.wasm_types.specs.declared.module.Module.{Module}
 use Rattle.wasm_types.specs.Back.{nested_module}
 use Rattle.code_specs.specs.Stores.{Store}
+use Rattle.code_specs.specs.Effects.{Effect, local_effect, indirect_call}
 use Rattle.code_specs.specs.Execution.{Returned, Trapped, Spent}
 use Rattle.machine_steps.specs.declared.frame.Label.{Label}
-use Rattle.machine_steps.specs.Steps.{Step, Go, Stop, returning, calling, branching, closing, choosing, executing, step_of}
+use Rattle.machine_steps.specs.Steps.{Step, Go, Stop, returning, calling, branching, closing, choosing, doing, executing, step_of}
 use Rattle.wasm_machine.specs.declared.stack.Stack.{Stack}
 use Rattle.wasm_machine.specs.declared.stack.Turn.{Turn}
 use Rattle.wasm_machine.specs.declared.stack.Turn.TheVariants as turn
@@ -56,3 +57,15 @@ abbrev pub TakesUnit : Instr → Type 0
 TakesUnit End = ⊥
 TakesUnit (Else e) = ⊥
 TakesUnit other = Unit {0}
+
+-- what an effect does
+abbrev pub doing_in : Module → Effect ℕ → Stack → Store → (fuel : ℕ) → Step
+doing_in fm x k s fuel = doing fm x k.func k.position k.base k.depth k.labels k.callers s fuel
+
+-- local.get, local.set and local.tee
+abbrev pub local_in : Module → (op index : ℕ) → Stack → Store → (fuel : ℕ) → Step
+local_in fm op index k s fuel = doing_in fm (local_effect op index k.values) k s fuel
+
+-- call_indirect, at an entry of the table
+abbrev pub entry_in : Module → Option (Option ℕ) → (ty : ℕ) → Stack → Store → (fuel : ℕ) → Step
+entry_in fm entry ty k s fuel = doing_in fm (indirect_call (nested_module fm) ty entry k.values) k s fuel

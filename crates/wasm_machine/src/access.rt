@@ -86,7 +86,10 @@ pub(crate) fn load(
     if base > 0xFFFF_FFFF {
         return Some(TrapKind::Memory);
     }
-    match instance.memory.load(pool, base as u32, offset, access_width(op)) {
+    match instance
+        .memory
+        .load(pool, base as u32, offset, access_width(op))
+    {
         None => Some(TrapKind::Memory),
         Some(n) => {
             push(values, low_of(op, signed_number(op, n)));

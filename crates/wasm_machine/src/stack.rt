@@ -90,6 +90,15 @@ pub(crate) fn pop(values: &mut Values) -> u64
     values.pop()
 }
 
+/// The value on top.
+#[inline(always)]
+pub(crate) fn top(values: &Values) -> u64
+    requires { values.now ≢ [] }
+    ensures { (n : ℕ) (below : List ℕ) → values.now ≡ n ∷ below → result ≡ n }
+{
+    values.get(values.len() - 1)
+}
+
 /// Puts a value on top.
 #[inline(always)]
 pub(crate) fn push(values: &mut Values, n: u64)

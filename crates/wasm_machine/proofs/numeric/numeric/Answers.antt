@@ -1,7 +1,7 @@
-use Rattle.std.proofs.Common.{sym, ap, ◌∙◌, ◌∷◌, ◌%◌, ◌^◌, List, ℕ, ◌≡◌, true, false}
+use Rattle.std.proofs.Common.{sym, ap, ◌∙◌, ◌∷◌, ◌%◌, ◌^◌, ℕ, ◌≡◌, true, false}
 use Rattle.wasm_types.specs.declared.instr.Instr.TheVariants.{Numeric}
 use Rattle.wasm_types.specs.Spellable.{width}
-use Rattle.code_specs.specs.Effects.{Effect, Continues, Traps, bare, effect_of}
+use Rattle.code_specs.specs.Effects.{Continues, Traps, bare, effect_of}
 use Rattle.wasm_num.specs.Arity.{is_unary_op}
 use Rattle.wasm_machine.specs.Opcodes.{given_type}
 use Rattle.wasm_machine.proofs.Numbers.{unary_effect, binary_effect, binary_done}

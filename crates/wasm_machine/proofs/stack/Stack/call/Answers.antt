@@ -1,7 +1,7 @@
-use Rattle.std.proofs.Common.{arith, ap, sym, ◌∙◌, ◌≡◌, length, ◌<◌, ◌-◌, ◌++◌, replicate, ◌∷◌, ◌+◌, List, []}
+use Rattle.std.proofs.Common.{arith, ap, sym, ◌∙◌, ◌≡◌, length, ◌<◌, ◌-◌, ◌++◌, replicate, ◌∷◌, ◌+◌, List}
 use Rattle.machine_steps.specs.declared.frame.Frame.{Frame}
 use Rattle.machine_steps.specs.Steps.{Go}
-use Rattle.wasm_machine.proofs.Calls.{goes_on, GoesOn}
+use Rattle.wasm_machine.proofs.Calls.{goes_on}
 use Rattle.wasm_machine.proofs.stack.Stack.call.Goals as goal
 
 pub overflow_sub-base : goal.overflow_sub-base
