@@ -1,0 +1,2 @@
+-- Runs over flat code.
+pub mod Runs
