@@ -5,14 +5,19 @@
 mod access;
 mod call;
 mod instance;
+mod making;
+mod misfit;
 mod numeric;
 mod outcome;
 mod plain;
 mod room;
 mod stack;
+mod state;
 mod step;
 mod types;
 
+pub use code_specs::Misfit;
 pub use instance::Instance;
+pub use misfit::fits;
 pub use outcome::Outcome;
 pub use stack::Stack;
