@@ -21,6 +21,10 @@ printf "$header\x01\x86\x00\x01$types$memory$exports\x0A\x09\x01\x07\x00$code" >
 printf "$header\x01\x07\x01$types$memory$exports\x0A\x09\x01\x07\x00$code" > large_size.wasm
 printf "$header\x01\x06\x01$types$memory$exports\x0A\x0B\x01\x09\x01\x01\x7D$code" > float.wasm
 printf "$header\x02\x08\x01\x01m\x01f\x00\x00\x00" > import.wasm
+printf "$header\x01\x06\x01$types$exports\x0A\x09\x01\x07\x00$code" > no_memory.wasm
+gives_i32='\x01\x05\x01\x60\x00\x01\x7F\x03\x02\x01\x00'
+printf "$header$gives_i32\x0A\x0B\x01\x09\x00\x41\x00\x04\x7F\x41\x01\x0B\x0B" > if.wasm
+printf "$header$gives_i32\x0A\x0E\x01\x0C\x00\x41\x00\x04\x7F\x41\x01\x05\x41\x02\x0B\x0B" > if_else.wasm
 head -c 42 load.wasm > cut.wasm
 printf "$header" > header.wasm
 printf "" > empty.wasm
@@ -58,4 +62,8 @@ expect 3 "refused main Size 8 0" line wasm large_size.wasm
 expect 3 "refused main Float 38 0" line wasm float.wasm
 expect 3 "refused main Import 8 0" line wasm import.wasm
 expect 3 "refused main Short 43 0" line wasm cut.wasm
+# Modules that can be read and aren't valid: without the memory; an if with a result and no else.
+expect 3 "refused main Index 0 1" line wasm no_memory.wasm
+expect 3 "refused main Operand 0 3" line wasm if.wasm
+expect 0 "" line wasm if_else.wasm
 expect 4 "unread main" line wasm missing.wasm

@@ -9,7 +9,8 @@ use Rattle.module_specs.specs.ModuleSpelling.{most_bytes, magic, version}
 use Rattle.module_specs.specs.Reading.{◌>>=◌, refuse_if}
 use Rattle.module_specs.specs.ModuleReading.{module_read, differs, rest_at}
 use Rattle.module_report.specs.Line.{module_line}
-use Rattle.bench.specs.Telling.{read_lines}
+use Rattle.code_specs.specs.Validity.{IsValid}
+use Rattle.bench.specs.Telling.{valid_lines, read_lines}
 
 -- a file over its limit has that fault
 pub over_limit : (b : List ℕ) → most_bytes < length b → module_read b ≡ Err (fault.Size most_bytes)
@@ -18,7 +19,7 @@ over_limit b over =
     ap (λ t. refuse_if t (fault.Size most_bytes) >>= λ small. (refuse_if (differs b 0 magic) (fault.Magic 0) >>= λ wasm. refuse_if (differs b 4 version) (fault.Version 4) >>= λ first. rest_at b 8))
     (lt-ltb most_bytes (length b) over)
 
--- the line of the module that was read is all that is to be written
+-- the line of the valid module that was read is all that is to be written
 pub one_line : (line : List ℕ) (read : Result NestedModule Fault)
-    → (m : NestedModule) × (line ≡ module_line m) × (read ≡ Ok m) → line ∷ [] ≡ read_lines read
-one_line line read is = ap (λ l. l ∷ []) is.1 ∙ sym (ap read_lines is.2)
+    → (m : NestedModule) × (line ≡ module_line m) × (read ≡ Ok m) × IsValid m → line ∷ [] ≡ read_lines read
+one_line line read is = ap (λ l. l ∷ []) is.1 ∙ sym (ap (valid_lines is.0) is.3) ∙ sym (ap read_lines is.2)

@@ -11,15 +11,16 @@ ghost use Rattle.bench.specs.Statuses.{WritesNothing};
 ghost use Rattle.bench.specs.Words.{Wasm};
 ghost use Rattle.bench.specs.Deed.{Deed, CarriedOut, Caused, IsFault};
 ghost use Rattle.bench.specs.Deeds.{Does};
-ghost use Rattle.bench.specs.Telling.{error_status, read_status, read_lines};
+ghost use Rattle.bench.specs.Telling.{error_status, why_of, read_status, read_lines};
 
 use crate::fetching::{FetchError, fetch};
-use crate::refusals::refused;
+use crate::refusals::{refused, refused_at};
 use crate::status::Status;
 use bench_outside::{FileId, Shelf, Sink, Why};
-use module_report::module_report;
+use module_report::{ReportError, module_report};
 use std::alloc::Global;
 use wasm_reader::ReadError;
+use wasm_validate::{Invalid, Rule};
 
 /// The greatest length of a module's file, in bytes.
 const LIMIT: u64 = 4_194_304;
@@ -29,7 +30,7 @@ pub fn limit_of_modules_is_that_of_the_format()
     ensures { (LIMIT ≡ 2 ^ 22) × (most_bytes ≡ LIMIT) }
 {}
 
-/// Writes the line on the module of a file.
+/// Writes the line on the module of a file, if it is valid.
 pub(crate) fn tell_module<H: Shelf, O: Sink>(
     alloc: Global,
     file: &str,
@@ -54,7 +55,7 @@ pub(crate) fn tell_module<H: Shelf, O: Sink>(
     }
 }
 
-/// Writes the line on the module that these bytes spell.
+/// Writes the line on the module that these bytes spell, if it is valid.
 fn tell_bytes<O: Sink>(alloc: Global, bytes: &[u8], out: &mut O) -> Status
     // Which answer comes.
     ensures answer { IsFault result ⊎ (result ≡ read_status (module_read bytes.now)) }
@@ -72,7 +73,11 @@ fn tell_bytes<O: Sink>(alloc: Global, bytes: &[u8], out: &mut O) -> Status
 {
     let line = match module_report(alloc, bytes) {
         Ok(line) => line,
-        Err(error) => return status_of(error),
+        Err(ReportError::Read(error)) => return status_of(error),
+        Err(ReportError::Invalid(Invalid::Memory)) => return Status::Memory,
+        Err(ReportError::Invalid(Invalid::Rule { rule, place, at })) => {
+            return refused_at(why_of(rule), place, at);
+        }
     };
     match out.write(&line) {
         Ok(()) => Status::Done,
@@ -104,5 +109,25 @@ fn status_of(error: ReadError) -> Status
         ReadError::Count(at) => refused(Why::Count, at as u64),
         ReadError::Limit(at) => refused(Why::Limit, at as u64),
         ReadError::Memory => Status::Memory,
+    }
+}
+
+/// The name of a rule of validity.
+fn why_of(rule: Rule) -> Why
+    ensures { result ≡ why_of rule }
+{
+    match rule {
+        Rule::TypeResult => Why::TypeResult,
+        Rule::FuncType => Why::FuncType,
+        Rule::Limits => Why::Limits,
+        Rule::Global => Why::Global,
+        Rule::Export => Why::Export,
+        Rule::Start => Why::Start,
+        Rule::Element => Why::Element,
+        Rule::Data => Why::Data,
+        Rule::Index => Why::Index,
+        Rule::Align => Why::Align,
+        Rule::Operand => Why::Operand,
+        Rule::Slots => Why::Slots,
     }
 }

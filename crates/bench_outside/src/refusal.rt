@@ -43,6 +43,32 @@ pub enum Why {
     Count,
     /// A least size over its limit; nesting over its limit, at the opcode; or locals over theirs, at the body's size.
     Limit,
+    /// Of a module that isn't valid, here and below: a function type with more than one result. The place is the
+    /// position of the item in its list.
+    TypeResult,
+    /// A function whose type isn't there.
+    FuncType,
+    /// A least size over the greatest, a memory's greatest size over 65,536 pages, or a second table or memory.
+    Limits,
+    /// A global whose constant has another type.
+    Global,
+    /// An export of what isn't there, or under a name that was used.
+    Export,
+    /// A function that runs first and isn't there, or has parameters or results.
+    Start,
+    /// An element segment without a table, at an offset that is no i32, or of a function that isn't there.
+    Element,
+    /// A data segment without a memory, or at an offset that is no i32.
+    Data,
+    /// In a body, here and below: an instruction names what isn't there, or sets a constant global. The place is the
+    /// function, the second number the instruction.
+    Index,
+    /// The alignment of a load or store is over its width.
+    Align,
+    /// An operand is missing or has another type, or a list doesn't end with exactly its result.
+    Operand,
+    /// A frame has no room for its locals and operands.
+    Slots,
 }
 
 /// A file that breaks its rules, by the first rule that it breaks.

@@ -16,6 +16,9 @@ use Rattle.module_report.specs.Line.{module_line}
 pub read_is : (m : NestedModule) (b : List ℕ) → SpellsModule m b → module_read b ≡ Ok m
 read_is m b s = module_again tell m b s
 
+pub nested_is : (m : NestedModule) (b : List ℕ) (flat : Module) → flat ≡ flat_module m → SpellsModule m b → nested_module flat ≡ m
+nested_is m b flat is s = ap nested_module is ∙ module_back m (plain_module m (module_fits m b s))
+
 pub line_is : (m : NestedModule) (b : List ℕ) (flat : Module) (line : List ℕ) → flat ≡ flat_module m → SpellsModule m b
     → line ≡ module_line (nested_module flat) → line ≡ module_line m
-line_is m b flat line is s e = e ∙ ap module_line (ap nested_module is ∙ module_back m (plain_module m (module_fits m b s)))
+line_is m b flat line is s e = e ∙ ap module_line (nested_is m b flat is s)

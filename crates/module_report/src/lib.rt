@@ -1,10 +1,10 @@
-//! What the bytes of a module hold, in one line.
+//! What the bytes of a valid module hold, in one line.
 #![tactic(auto)]
 
 mod line;
 mod report;
 
-pub use report::module_report;
+pub use report::{ReportError, module_report};
 
 #[cfg(test)]
 mod tests;

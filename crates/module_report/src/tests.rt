@@ -1,7 +1,8 @@
-//! The line on a module by hand, and a fault.
-use crate::module_report;
+//! The line on a module by hand, a fault, and a rule that fails.
+use crate::{ReportError, module_report};
 use std::test::Fail;
 use wasm_reader::ReadError;
+use wasm_validate::{Invalid, Rule};
 
 /// A function with an i32.load at its argument, exported as "f", and one page of memory.
 const LOAD: [u8; 43] = [
@@ -22,6 +23,22 @@ fn the_line_on_a_load(rt: HostRuntime) -> Result<(), Fail> {
 #[test]
 fn a_module_without_its_last_byte(rt: HostRuntime) -> Result<(), Fail> {
     let error = module_report(rt.alloc(), &LOAD[..42]).err();
-    assert_eq!(rt; error, Some(ReadError::Short(43)));
+    assert_eq!(rt; error, Some(ReportError::Read(ReadError::Short(43))));
+    Ok(())
+}
+
+#[test]
+fn a_load_without_a_memory(rt: HostRuntime) -> Result<(), Fail> {
+    let alloc = rt.alloc();
+    let mut bytes = Vec::new(alloc);
+    bytes.extend_from_slice(&LOAD[..20])?;
+    bytes.extend_from_slice(&LOAD[25..])?;
+    let error = module_report(alloc, &bytes).err();
+    let invalid = Invalid::Rule {
+        rule: Rule::Index,
+        place: 0,
+        at: 1,
+    };
+    assert_eq!(rt; error, Some(ReportError::Invalid(invalid)));
     Ok(())
 }

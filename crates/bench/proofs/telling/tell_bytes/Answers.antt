@@ -12,4 +12,4 @@ returns-clause-broken g c unwritten =
     let same : piece ∷ [] ≡ read_lines (module_read c.args.bytes.now) =
     ap (λ l. l ∷ []) c.deref.ensures.value ∙ one_line c.in-Ok.line.items (module_read c.args.bytes.now) c.in-Ok.ensures.line in
     subst (λ lines. BreaksOff g.O.Sink c.args.out.now c.write.new.self lines) same
-    (breaks_one g.O.Sink c.args.out.now c.write.new.self piece c.in-Err-write.ensures.part c.write.ensures.made)
+    (breaks_one g.O.Sink c.args.out.now c.write.new.self piece c.in-Err.ensures.part c.write.ensures.made)
