@@ -12,7 +12,9 @@ fn the_example_is_read(rt: HostRuntime) -> Result<(), Fail> {
             assert!(rt; file.settings.events == 1_000_000);
             assert!(rt; file.buses.len() == 1);
             assert!(rt; file.nodes.len() == 2);
-            assert!(rt; file.nodes[1].attachments[0].terminal.as_slice() == b"CAN".as_slice());
+            let lamp = &file.nodes[1];
+            assert!(rt; lamp.attachments.len() == 1);
+            assert!(rt; lamp.attachments[0].terminal.as_slice() == b"CAN".as_slice());
             assert!(rt; file.script.len() == 1);
             assert!(rt; file.script[0].entry.by == Some(1));
         }

@@ -16,8 +16,8 @@ pub struct Row {
     pub place: u64,
 }
 
-/// One place is changed; each change is tried alone.
-pub const CHANGES: [Row; 115] = [
+/// One place is changed, of the settings or a bus; each change is tried alone.
+pub const SETTINGS_AND_BUSES: [Row; 57] = [
     Row {
         what: "a key twice",
         old: "stop = 2000000000",
@@ -417,6 +417,10 @@ pub const CHANGES: [Row; 115] = [
         field: "",
         place: 0,
     },
+];
+
+/// One place is changed, of a node or an error.
+pub const NODES_AND_ERRORS: [Row; 58] = [
     Row {
         what: "no node",
         old: "[[node]]\nname = \"door\"\nfmu = \"Door_1\"\nbus = { CAN = \"body\" }\n\n[[node]]\nname = \"gate\"\nfmu = \"gate\"\nbus.IN = \"body\"\nbus.OUT = \"drive_2\"\n\n[[node]]\nname = \"engine\"\nfmu = \"engine\"\nbus = { CAN = \"drive_2\" }\n\n",

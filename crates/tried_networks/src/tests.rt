@@ -1,5 +1,5 @@
 //! Each change of a network file is refused for its field at its place, or accepted.
-use crate::rows::{CAR, CHANGES, Row, WHOLE};
+use crate::rows::{CAR, NODES_AND_ERRORS, Row, SETTINGS_AND_BUSES, WHOLE};
 use network_file::{NetworkFileError, read_network_file};
 use std::alloc::{AllocError, Global};
 use std::test::Fail;
@@ -17,8 +17,16 @@ fn is_answered(alloc: Global, row: &Row) -> Result<bool, AllocError> {
 }
 
 #[test]
-fn each_change_is_refused_for_its_field(rt: HostRuntime) -> Result<(), Fail> {
-    for row in CHANGES.iter() {
+fn each_change_of_settings_and_buses_is_refused_for_its_field(rt: HostRuntime) -> Result<(), Fail> {
+    for row in SETTINGS_AND_BUSES.iter() {
+        assert!(rt; is_answered(rt.alloc(), row)?, "{}", row.what);
+    }
+    Ok(())
+}
+
+#[test]
+fn each_change_of_nodes_and_errors_is_refused_for_its_field(rt: HostRuntime) -> Result<(), Fail> {
+    for row in NODES_AND_ERRORS.iter() {
         assert!(rt; is_answered(rt.alloc(), row)?, "{}", row.what);
     }
     Ok(())
