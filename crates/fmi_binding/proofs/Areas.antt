@@ -19,14 +19,22 @@ each_byte (b ∷ bs) small =
     ap (λ n. n ∷ map (λ b. b % 256) bs) same ∙ ap (λ (l : List ℕ). b ∷ l) (each_byte bs (λ i. small (suc i)))
 
 pub nothing_there : (place count : ℕ) (h : Held) → None ≡ bytes_at h.store.bytes (h.area + place) count → Comes (bytes_in_area place count) h h (Err BadBuffer)
-nothing_there place count h e = record { each = λ used. (used,
-    ap (λ (o : Option (List ℕ)). wanted BadBuffer (option_map (map (λ b. b % 256)) o) (work_with h used)) (sym e)) }
+nothing_there place count h e = record {
+  each = λ used. (
+    used,
+    ap (λ (o : Option (List ℕ)). wanted BadBuffer (option_map (map (λ b. b % 256)) o) (work_with h used)) (sym e),
+  );
+}
 
 pub bytes_there : (place count : ℕ) (h : Held) (bytes : List ℕ) → Some bytes ≡ bytes_at h.store.bytes (h.area + place) count → map (λ b. b % 256) bytes ≡ bytes
     → Comes (bytes_in_area place count) h h (Ok bytes)
-bytes_there place count h bytes e same = record { each = λ used. (used,
+bytes_there place count h bytes e same = record {
+  each = λ used. (
+    used,
     ap (λ (o : Option (List ℕ)). wanted BadBuffer (option_map (map (λ b. b % 256)) o) (work_with h used)) (sym e)
-    ∙ ap (λ (l : List ℕ). wanted BadBuffer (Some l) (work_with h used)) same) }
+        ∙ ap (λ (l : List ℕ). wanted BadBuffer (Some l) (work_with h used)) same,
+  );
+}
 
 pub number_there : (place count : ℕ) (h : Held) (bytes : List ℕ) → Comes (bytes_in_area place count) h h (Ok bytes) → Comes (number_in_area place count) h h (Ok (number_of_bytes bytes))
 number_there place count h bytes read =

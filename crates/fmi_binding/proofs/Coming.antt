@@ -12,15 +12,19 @@ module _ {A B : Type 0} (p : Piece A) (next : A → Piece B) (h k : Held) where
   go q = follow q.0 next q.1
 
   pub comes_on : (l : Held) (x : A) (r : Result B Broken) → Comes p h k (Ok x) → Comes (next x) k l r → Comes (p >>= next) h l r
-  comes_on l x r first second = record { each = λ used.
-      let one = first.each used in
-      let two = second.each one.0 in
-      (two.0, ap go one.1 ∙ two.1) }
+  comes_on l x r first second = record {
+    each = λ used.
+        let one = first.each used in
+        let two = second.each one.0 in
+        (two.0, ap go one.1 ∙ two.1);
+  }
 
   pub comes_broken : (why : Broken) → Comes p h k (Err why) → Comes (p >>= next) h k (Err why)
-  comes_broken why first = record { each = λ used.
-      let one = first.each used in
-      (one.0, ap go one.1) }
+  comes_broken why first = record {
+    each = λ used.
+        let one = first.each used in
+        (one.0, ap go one.1);
+  }
 
   -- where what comes next only looks at what it gets
   pub comes_then : (r : Result A Broken) (f : A → Result B Broken) → Comes p h k r → ((x : A) → Comes (next x) k k (f x)) → Comes (p >>= next) h k (then_in r f)

@@ -59,11 +59,14 @@ by_outcome budget fuel outcome.Spent s t area used = refl
 pub run_comes : (m : NestedModule) (budget index : ℕ) (arguments : List ℕ) (o : Outcome) (s t : Store) (fuel area : ℕ)
     → answer_with o t fuel ≡ bits_of_answer (answer_of m index arguments s budget)
     → Comes (run m budget index arguments) (record { store = s; area = area }) (record { store = t; area = area }) (numbers_in (ends o))
-run_comes m budget index arguments o s t fuel area e = record { each = λ used.
-    (left_in budget fuel o used,
+run_comes m budget index arguments o s t fuel area e = record {
+  each = λ used. (
+    left_in budget fuel o used,
     by_bits budget (answer_of m index arguments s budget) (work_with (record { store = s; area = area }) used)
-    ∙ ap (λ a. of_bits budget a (work_with (record { store = s; area = area }) used)) (sym e)
-    ∙ by_outcome budget fuel o s t area used) }
+        ∙ ap (λ a. of_bits budget a (work_with (record { store = s; area = area }) used)) (sym e)
+        ∙ by_outcome budget fuel o s t area used,
+  );
+}
 
 -- ---- a function by its name
 

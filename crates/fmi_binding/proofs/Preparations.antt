@@ -22,20 +22,28 @@ use Rattle.fmi_binding.proofs.Coming.{comes_on, comes_broken, gives_comes}
 pub written : (address : ℕ) (bytes : List ℕ) (s : Store) (area : ℕ) (bs gs : List ℕ) → nat_le (address + length bytes) (length s.bytes) ≡ true
     → bs ≡ replaced_at s.bytes address bytes → gs ≡ s.globals
     → Comes (writes address bytes) (record { store = s; area = area }) (record { store = record { bytes = bs; globals = gs }; area = area }) (Ok tt)
-written address bytes s area bs gs fits now same = record { each = λ used. (used,
+written address bytes s area bs gs fits now same = record {
+  each = λ used. (
+    used,
     ap (λ b. if b then (Ok tt, work_with (record { store = record { bytes = replaced_at s.bytes address bytes; globals = s.globals }; area = area }) used)
         else (Err BadBuffer, work_with (record { store = s; area = area }) used)) fits
-    ∙ ap (λ (xs : List ℕ). (Ok tt, work_with (record { store = record { bytes = xs; globals = s.globals }; area = area }) used)) (sym now)
-    ∙ ap (λ (xs : List ℕ). (Ok tt, work_with (record { store = record { bytes = bs; globals = xs }; area = area }) used)) (sym same)) }
+        ∙ ap (λ (xs : List ℕ). (Ok tt, work_with (record { store = record { bytes = xs; globals = s.globals }; area = area }) used)) (sym now)
+        ∙ ap (λ (xs : List ℕ). (Ok tt, work_with (record { store = record { bytes = bs; globals = xs }; area = area }) used)) (sym same),
+  );
+}
 
 pub not_written : (address : ℕ) (bytes : List ℕ) (s : Store) (area : ℕ) (bs gs : List ℕ) → nat_le (address + length bytes) (length s.bytes) ≡ false
     → bs ≡ s.bytes → gs ≡ s.globals
     → Comes (writes address bytes) (record { store = s; area = area }) (record { store = record { bytes = bs; globals = gs }; area = area }) (Err BadBuffer)
-not_written address bytes s area bs gs fits now same = record { each = λ used. (used,
+not_written address bytes s area bs gs fits now same = record {
+  each = λ used. (
+    used,
     ap (λ b. if b then (Ok tt, work_with (record { store = record { bytes = replaced_at s.bytes address bytes; globals = s.globals }; area = area }) used)
         else (Err BadBuffer, work_with (record { store = s; area = area }) used)) fits
-    ∙ ap (λ (xs : List ℕ). (Err BadBuffer, work_with (record { store = record { bytes = xs; globals = s.globals }; area = area }) used)) (sym now)
-    ∙ ap (λ (xs : List ℕ). (Err BadBuffer, work_with (record { store = record { bytes = bs; globals = xs }; area = area }) used)) (sym same)) }
+        ∙ ap (λ (xs : List ℕ). (Err BadBuffer, work_with (record { store = record { bytes = xs; globals = s.globals }; area = area }) used)) (sym now)
+        ∙ ap (λ (xs : List ℕ). (Err BadBuffer, work_with (record { store = record { bytes = bs; globals = xs }; area = area }) used)) (sym same),
+  );
+}
 
 -- nothing comes before another call
 pub unprepared : (g : Guest) (c : Call) (h : Held) → is_instantiation c ≡ false → ((reference : ℕ) (bytes : List ℕ) → c ≡ call.SetBinary reference bytes → ⊥)

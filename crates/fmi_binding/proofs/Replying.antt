@@ -32,7 +32,6 @@ updated_behind g status another h r first second =
     comes_on (flag_in_area 0) (λ another. flag_in_area 4 >>= λ end. gives (Updated status another end)) h h h another r first second
 
 module _ (g : Guest) (reference : ℕ) (status : FmiStatus) (h : Held) where
-
   pub no_counter : (why : Broken) → Comes (number_in_area 0 8) h h (Err why) → Comes (full_reply g (call.GetInterval reference) status) h h (Err why)
   no_counter why first =
       comes_broken (number_in_area 0 8) (λ counter. number_in_area 8 8 >>= λ resolution. qualifier_in_area 16 >>= λ qualifier. gives (Interval status counter resolution qualifier)) h h why first

@@ -112,8 +112,8 @@ placed size pages address h b long fits = record { each = λ used. (used, go b (
 
 behind_number : (size pages : ℕ) (numbers : List ℕ) (h : Held) (r : Result ℕ Broken) → length h.store.bytes ≡ pages * page_size → Comes (the_number numbers) h h r
     → Comes (the_number numbers >>= λ address. place_area size address) h
-      (record h { area = area_after h.area (then_in r (λ n. if nat_le (n + size) (pages * page_size) then Ok n else Err BadBuffer)) })
-      (done_in (then_in r (λ n. if nat_le (n + size) (pages * page_size) then Ok n else Err BadBuffer)))
+    (record h { area = area_after h.area (then_in r (λ n. if nat_le (n + size) (pages * page_size) then Ok n else Err BadBuffer)) })
+    (done_in (then_in r (λ n. if nat_le (n + size) (pages * page_size) then Ok n else Err BadBuffer)))
 behind_number size pages numbers h (Err why) long first = comes_broken (the_number numbers) (λ address. place_area size address) h h why first
 behind_number size pages numbers h (Ok n) long first =
     comes_on (the_number numbers) (λ address. place_area size address) h h _ n _ first
@@ -122,7 +122,7 @@ behind_number size pages numbers h (Ok n) long first =
 pub area_by_numbers : (g : Guest) (h k : Held) (pages : ℕ) (r : Result (List ℕ) Broken) → length k.store.bytes ≡ pages * page_size
     → Comes (calls g function.Area (area_size g.description ∷ [])) h k r
     → Comes (asks_area g) h (record k { area = area_after k.area (then_in r (address_in (area_size g.description) pages)) })
-      (done_in (then_in r (address_in (area_size g.description) pages)))
+    (done_in (then_in r (address_in (area_size g.description) pages)))
 area_by_numbers g h k pages (Err why) long called =
     comes_broken (calls g function.Area (area_size g.description ∷ [])) (λ numbers. the_number numbers >>= λ address. place_area (area_size g.description) address) h k why called
 area_by_numbers g h k pages (Ok numbers) long called =

@@ -34,7 +34,15 @@ pub(crate) fn start(
     match bound.code.module().start {
         None => Ok(Ok(())),
         Some(index) => {
-            match run(alloc, guests, instance, &bound.code, bound.budget, index, &[])? {
+            match run(
+                alloc,
+                guests,
+                instance,
+                &bound.code,
+                bound.budget,
+                index,
+                &[],
+            )? {
                 Err(why) => Ok(Err(why)),
                 Ok(_) => Ok(Ok(())),
             }

@@ -88,29 +88,71 @@ pub(crate) fn status_by(
         Call::Free => free(alloc, guests, instance, bound),
         Call::SetClock(reference) => {
             let arguments = [u64::from(*reference), 1];
-            call_status(alloc, guests, instance, bound, Function::SetClock, &arguments)
+            call_status(
+                alloc,
+                guests,
+                instance,
+                bound,
+                Function::SetClock,
+                &arguments,
+            )
         }
         Call::SetBinary(reference, bytes) => {
             let arguments = [u64::from(*reference), bytes.as_slice().len() as u64];
-            call_status(alloc, guests, instance, bound, Function::SetBinary, &arguments)
+            call_status(
+                alloc,
+                guests,
+                instance,
+                bound,
+                Function::SetBinary,
+                &arguments,
+            )
         }
         Call::GetClock(reference) => {
             let arguments = [u64::from(*reference)];
-            call_status(alloc, guests, instance, bound, Function::GetClock, &arguments)
+            call_status(
+                alloc,
+                guests,
+                instance,
+                bound,
+                Function::GetClock,
+                &arguments,
+            )
         }
         Call::GetBinary(reference) => {
             let arguments = [u64::from(*reference)];
-            call_status(alloc, guests, instance, bound, Function::GetBinary, &arguments)
+            call_status(
+                alloc,
+                guests,
+                instance,
+                bound,
+                Function::GetBinary,
+                &arguments,
+            )
         }
         Call::GetInterval(reference) => {
             let arguments = [u64::from(*reference)];
-            call_status(alloc, guests, instance, bound, Function::GetInterval, &arguments)
+            call_status(
+                alloc,
+                guests,
+                instance,
+                bound,
+                Function::GetInterval,
+                &arguments,
+            )
         }
         Call::DoStep { from, size } => {
             let arguments = [*from, *size];
             call_status(alloc, guests, instance, bound, Function::DoStep, &arguments)
         }
-        Call::Instantiate => call_status(alloc, guests, instance, bound, Function::Instantiate, &[]),
+        Call::Instantiate => call_status(
+            alloc,
+            guests,
+            instance,
+            bound,
+            Function::Instantiate,
+            &[],
+        ),
         Call::EnterInit => call_status(alloc, guests, instance, bound, Function::EnterInit, &[]),
         Call::ExitInit => call_status(alloc, guests, instance, bound, Function::ExitInit, &[]),
         Call::EnterEvent => call_status(alloc, guests, instance, bound, Function::EnterEvent, &[]),
