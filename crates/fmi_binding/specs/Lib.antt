@@ -1,3 +1,4 @@
 -- Words of this crate's clauses.
 pub mod Faults
 pub mod States
+pub mod Coming

@@ -1,13 +1,24 @@
-//! A module bound as a unit: whether it exports what a unit has.
+//! A module bound as a unit: whether it exports what a unit has, and its calls.
 #![tactic(auto)]
 
+mod asking;
 mod bound;
+mod bound_unit;
+mod exchanging;
 mod exports;
+mod guests;
 mod laws;
+mod preparing;
+mod reading;
+mod replies;
+mod running;
+mod sizes;
 mod state;
 mod types;
 
 pub use binding_specs::{BindError, Function};
 pub use bound::{check, check_module};
+pub use bound_unit::BoundUnit;
+pub use guests::Guests;
 pub use laws::states_of_guests_are_those_of_units;
 pub use state::GuestState;

@@ -1,0 +1,143 @@
+-- Whole exchanges.
+use Rattle.std.specs.Prelude.{◌≡◌, ℕ, ◌+◌, ◌*◌, ◌≤◌, Bool, true, false, ◌&&◌, List, [], ◌∷◌, Option, None, Some, Result, Ok, Err, length, nat_le, refl, option_map, if◌then◌else◌}
+use Rattle.std.proofs.Common.{sym, ap, ◌∙◌, subst, arith}
+use Rattle.fmi_states.specs.declared.status.FmiStatus.{FmiStatus}
+use Rattle.fmi_states.specs.declared.call.Call.{Call}
+use Rattle.fmi_states.specs.declared.call.Call.TheVariants as call
+use Rattle.fmi_states.specs.declared.reply.Reply.{Reply}
+use Rattle.fmi_states.specs.declared.reply.Broken.{Broken}
+use Rattle.fmi_states.specs.declared.reply.Broken.TheVariants.{BadBuffer}
+use Rattle.wasm_types.specs.declared.instr.ValType.{ValType}
+use Rattle.wasm_types.specs.declared.module.Module.{Module}
+use Rattle.wasm_types.specs.Modules.{NestedModule}
+use Rattle.wasm_types.specs.Back.{nested_module}
+use Rattle.code_specs.specs.declared.rule.Rule.TheVariants as rule
+use Rattle.std.proofs.Math.Nat.{min-le_right}
+use Rattle.wasm_types.specs.declared.module.Limits.{Limits}
+use Rattle.code_specs.specs.Stores.{page_size, pages_within, greatest_pages}
+use Rattle.code_specs.specs.Signatures.{Function as TypedFunction, function_at, type_of_function, is_same_list}
+use Rattle.code_specs.specs.Validity.{fails_at, each, has_one_result, has_type, is_ordered, is_memory_type, failing_limits, is_initialized, failing_export, can_start, failing_start, validity, IsValid}
+use Rattle.code_laws.specs.Answers.{Fit}
+use Rattle.code_laws.proofs.Tests.{passed}
+use Rattle.wasm_machine.specs.declared.instance.Instance.{Instance}
+use Rattle.wasm_machine.specs.Instances.{IsMadeFrom}
+use Rattle.wasm_machine.specs.Calls.{Fits}
+use Rattle.binding_specs.specs.declared.function.Function.TheVariants as function
+use Rattle.binding_specs.specs.Guests.{Guest, area_size}
+use Rattle.binding_specs.specs.Pieces.{◌>>=◌, gives, run}
+use Rattle.binding_specs.specs.Exchanges.{calls, the_number, place_area, asks_area, is_fine, reply_if, starts, prepares, status_by, exchange}
+use Rattle.fmi_binding.specs.Coming.{Held, work_with, Comes, then_in, number_in, address_in, area_after, done_in}
+use Rattle.fmi_binding.proofs.Coming.{comes_on, comes_broken, gives_comes, number_comes}
+
+-- ---- the exchange of a call
+
+module _ (g : Guest) (c : Call) (h k : Held) where
+  pub not_prepared : (why : Broken) → Comes (prepares g c) h k (Err why) → Comes (exchange g c) h k (Err why)
+  unfolding exchange
+  not_prepared why first = comes_broken (prepares g c) (λ prepared. status_by g c >>= λ status. reply_if (is_fine status) g c status) h k why first
+
+  pub no_status : (l : Held) (why : Broken) → Comes (prepares g c) h k (Ok tt) → Comes (status_by g c) k l (Err why) → Comes (exchange g c) h l (Err why)
+  unfolding exchange
+  no_status l why first second =
+      comes_on (prepares g c) (λ prepared. status_by g c >>= λ status. reply_if (is_fine status) g c status) h k l tt (Err why) first
+      (comes_broken (status_by g c) (λ status. reply_if (is_fine status) g c status) k l why second)
+
+  pub exchanged : (l m : Held) (status : FmiStatus) (r : Result Reply Broken) → Comes (prepares g c) h k (Ok tt) → Comes (status_by g c) k l (Ok status)
+      → Comes (reply_if (is_fine status) g c status) l m r → Comes (exchange g c) h m r
+  unfolding exchange
+  exchanged l m status r first second third =
+      comes_on (prepares g c) (λ prepared. status_by g c >>= λ status. reply_if (is_fine status) g c status) h k m tt r first
+      (comes_on (status_by g c) (λ status. reply_if (is_fine status) g c status) k l m status r second third)
+
+-- ---- the start function
+
+start_passes : (m : NestedModule) → IsValid m → failing_start m m.start ≡ None
+unfolding validity
+start_passes m is =
+    let types = passed (each rule.TypeResult has_one_result m.types) _ tt is in
+    let funcs = passed (each rule.FuncType (has_type m) m.funcs) _ tt types.then in
+    let tables = passed (fails_at rule.Limits (failing_limits is_ordered m.tables)) _ tt funcs.then in
+    let memories = passed (fails_at rule.Limits (failing_limits is_memory_type m.memories)) _ tt tables.then in
+    let globals = passed (each rule.Global is_initialized m.globals) _ tt memories.then in
+    let exports = passed (fails_at rule.Export (failing_export m [] 0 m.exports)) _ tt globals.then in
+    let start = passed (fails_at rule.Start (failing_start m m.start)) _ tt exports.then in
+    none (failing_start m m.start) start.it start.is
+  where
+    none : (o : Option ℕ) (u : Unit {0}) → fails_at rule.Start o ≡ Ok u → o ≡ None
+    none None u is = refl
+    none (Some place) u is = cc
+
+empty_fits : (ps rs : List ValType) → (is_same_list ps [] && is_same_list rs []) ≡ true → Fit ps []
+empty_fits [] rs h = tt
+empty_fits (p ∷ ps) rs h = cc h
+
+by_function : (m : Module) (index : ℕ) (o : Option TypedFunction) → function_at (nested_module m) index ≡ o
+    → can_start (option_map (λ (f : TypedFunction). f.ty) o) ≡ true → Fits m index []
+by_function m index None is h = cc h
+by_function m index (Some f) is h = record { f = f; is = is; fit = empty_fits f.ty.params f.ty.results h }
+
+can_start_is : (m : NestedModule) (index : ℕ) (b : Bool) → can_start (type_of_function m index) ≡ b → failing_start m (Some index) ≡ None → b ≡ true
+can_start_is m index true is h = refl
+can_start_is m index false is h = absurd (let wrong : Some 0 ≡ None = sym (ap (λ b. if b then None else Some 0) is) ∙ h in cc)
+
+pub start_fits : (m : Module) (index : ℕ) → IsValid (nested_module m) → m.start ≡ Some index → Fits m index []
+start_fits m index valid is =
+    let passes : failing_start (nested_module m) (Some index) ≡ None = subst (λ o. failing_start (nested_module m) o ≡ None) is (start_passes (nested_module m) valid) in
+    let can = can_start_is (nested_module m) index (can_start (type_of_function (nested_module m) index)) refl passes in
+    by_function m index (function_at (nested_module m) index) refl can
+
+pub started : (g : Guest) (index : ℕ) (h k : Held) (numbers : List ℕ) → g.code.start ≡ Some index → Comes (run g.code g.budget index []) h k (Ok numbers)
+    → Comes (prepares g call.Instantiate) h k (Ok tt)
+started g index h k numbers is ran =
+    subst (λ o. Comes (starts g o) h k (Ok tt)) (sym is) (comes_on (run g.code g.budget index []) (λ numbers. gives tt) h k k numbers (Ok tt) ran (gives_comes tt k))
+
+pub not_started : (g : Guest) (index : ℕ) (h k : Held) (why : Broken) → g.code.start ≡ Some index → Comes (run g.code g.budget index []) h k (Err why)
+    → Comes (prepares g call.Instantiate) h k (Err why)
+not_started g index h k why is ran =
+    subst (λ o. Comes (starts g o) h k (Err why)) (sym is) (comes_broken (run g.code g.budget index []) (λ numbers. gives tt) h k why ran)
+
+pub no_start : (g : Guest) (h : Held) → g.code.start ≡ None → Comes (prepares g call.Instantiate) h h (Ok tt)
+no_start g h is = subst (λ o. Comes (starts g o) h h (Ok tt)) (sym is) (gives_comes tt h)
+
+-- ---- the area
+
+placed : (size pages address : ℕ) (h : Held) (b : Bool) → length h.store.bytes ≡ pages * page_size → nat_le (address + size) (pages * page_size) ≡ b
+    → Comes (place_area size address) h (record h { area = area_after h.area (if b then Ok address else Err BadBuffer) }) (done_in (if b then Ok address else Err BadBuffer))
+placed size pages address h b long fits = record { each = λ used. (used, go b (ap (nat_le (address + size)) long ∙ fits) used) }
+  where
+    go : (b : Bool) → nat_le (address + size) (length h.store.bytes) ≡ b → (used : List ℕ)
+        → place_area size address (work_with h used) ≡ (done_in (if b then Ok address else Err BadBuffer), work_with (record h { area = area_after h.area (if b then Ok address else Err BadBuffer) }) used)
+    go true is used = ap (λ b. if b then (Ok tt, record (work_with h used) { area = address }) else (Err BadBuffer, work_with h used)) is
+    go false is used = ap (λ b. if b then (Ok tt, record (work_with h used) { area = address }) else (Err BadBuffer, work_with h used)) is
+
+behind_number : (size pages : ℕ) (numbers : List ℕ) (h : Held) (r : Result ℕ Broken) → length h.store.bytes ≡ pages * page_size → Comes (the_number numbers) h h r
+    → Comes (the_number numbers >>= λ address. place_area size address) h
+    (record h { area = area_after h.area (then_in r (λ n. if nat_le (n + size) (pages * page_size) then Ok n else Err BadBuffer)) })
+    (done_in (then_in r (λ n. if nat_le (n + size) (pages * page_size) then Ok n else Err BadBuffer)))
+behind_number size pages numbers h (Err why) long first = comes_broken (the_number numbers) (λ address. place_area size address) h h why first
+behind_number size pages numbers h (Ok n) long first =
+    comes_on (the_number numbers) (λ address. place_area size address) h h _ n _ first
+    (placed size pages n h (nat_le (n + size) (pages * page_size)) long refl)
+
+pub area_by_numbers : (g : Guest) (h k : Held) (pages : ℕ) (r : Result (List ℕ) Broken) → length k.store.bytes ≡ pages * page_size
+    → Comes (calls g function.Area (area_size g.description ∷ [])) h k r
+    → Comes (asks_area g) h (record k { area = area_after k.area (then_in r (address_in (area_size g.description) pages)) })
+    (done_in (then_in r (address_in (area_size g.description) pages)))
+area_by_numbers g h k pages (Err why) long called =
+    comes_broken (calls g function.Area (area_size g.description ∷ [])) (λ numbers. the_number numbers >>= λ address. place_area (area_size g.description) address) h k why called
+area_by_numbers g h k pages (Ok numbers) long called =
+    comes_on (calls g function.Area (area_size g.description ∷ [])) (λ numbers. the_number numbers >>= λ address. place_area (area_size g.description) address) h k _ numbers _ called
+    (behind_number (area_size g.description) pages numbers k (number_in numbers) long (number_comes numbers k))
+
+-- ---- the size of a memory
+
+few_of : (o : Option ℕ) → pages_within o ≤ 256
+few_of None = omega arith
+few_of (Some most) = min-le_right most 256
+
+few_pages : (m : NestedModule) (ms : List Limits) → greatest_pages (record m { memories = ms }) ≤ 256
+few_pages m [] = omega arith
+few_pages m (l ∷ ls) = few_of l.max
+
+pub pages_few : (m : Module) (i : Instance) → IsMadeFrom m i → i.memory.pages ≤ 256
+pages_few m i x = omega (arith, x.within, x.greatest, few_pages (nested_module m) m.memories)
