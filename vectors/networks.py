@@ -305,12 +305,14 @@ def write_rows(out, listed):
     out.write("    pub old: &'static str,\n    pub new: &'static str,\n")
     out.write("    /// The field of the refusal, empty where the file is accepted, and its place.\n")
     out.write("    pub field: &'static str,\n    pub place: u64,\n}\n\n")
-    # The rows stand in two lists, since a proof over all of them at once takes too long.
-    first = next(place for place, row in enumerate(ROWS) if row[3].startswith("node"))
+    # The rows stand in two lists, since a proof over all of them at once takes too long, as over texts of many errors:
+    # the test makes those itself.
+    changes = [row for row in listed[: len(ROWS)] if len(row[2]) < 10_000]
+    first = next(place for place, row in enumerate(changes) if row[3].startswith("node"))
     parts = []
     for name, about, rows in (
-        ("SETTINGS_AND_BUSES", "One place is changed, of the settings or a bus; each change is tried alone.", listed[:first]),
-        ("NODES_AND_ERRORS", "One place is changed, of a node or an error.", listed[first : len(ROWS)]),
+        ("SETTINGS_AND_BUSES", "One place is changed, of the settings or a bus; each change is tried alone.", changes[:first]),
+        ("NODES_AND_ERRORS", "One place is changed, of a node or an error.", changes[first:]),
         ("WHOLE", "The whole text is another one.", listed[len(ROWS) :]),
     ):
         lines = [f"/// {about}", f"pub const {name}: [Row; {len(rows)}] = ["]
