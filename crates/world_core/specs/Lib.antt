@@ -13,3 +13,5 @@ pub mod SeenTurns
 pub mod Sitting
 pub mod Settled
 pub mod Called
+pub mod Held
+pub mod Sits
