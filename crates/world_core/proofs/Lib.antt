@@ -21,3 +21,5 @@ pub mod TurnSteps
 pub mod TurnSeen
 pub mod Moved
 pub mod Seating
+pub mod NodeSteps
+pub mod NodeWalk

@@ -163,7 +163,7 @@ module _ {E G S : Type 0} (g : Ghosts E G S) (c : Course) (es : List E) (shared 
 pub settled-course : (c : Course) (ts ts' : List Standing) (cs cs' : List (Option ℕ)) → ts ≡ ts' → cs ≡ cs' → record c { standings = ts; clocks = cs } ≡ record c { standings = ts'; clocks = cs' }
 settled-course c ts ts' cs cs' x y = rw (x, y) refl
 
-same-at : {X : Type 0} (xs : List X) (i : ℕ) (a b : X) → slice_get xs i ≡ Some a → slice_get xs i ≡ Some b → a ≡ b
+pub same-at : {X : Type 0} (xs : List X) (i : ℕ) (a b : X) → slice_get xs i ≡ Some a → slice_get xs i ≡ Some b → a ≡ b
 same-at xs i a b p q = let z : Some a ≡ Some b = sym p ∙ q in cc
 
 -- what a session or none leaves, of the node that stands there

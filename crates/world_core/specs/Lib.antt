@@ -15,3 +15,5 @@ pub mod Settled
 pub mod Called
 pub mod Held
 pub mod Sits
+pub mod Left
+pub mod Walked

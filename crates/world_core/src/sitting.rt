@@ -1,11 +1,16 @@
 //! The session of one node of a network.
-ghost use Rattle.std.specs.Prelude.{◌≡◌, ◌<◌, ◌≤◌, ◌*◌, ◌^◌, All, IfOk, OnOk, drop, length, slice_get, Some};
+ghost use Rattle.std.specs.Prelude.{◌≡◌, ◌<◌, ◌≤◌, ◌*◌, ◌^◌, All, IfOk, OnOk, drop, length, map, slice_get, Some};
 ghost use Rattle.bus_specs.specs.Sound.{Sound};
-ghost use Rattle.world_specs.specs.Plan.{NodePlan as node_plan};
+ghost use Rattle.world_specs.specs.Plan.{NodePlan as node_plan, units_of};
+ghost use Rattle.world_specs.specs.Sessions.{node_after, turns as turns_of};
 ghost use Rattle.world_core.specs.Called.{call_of as called};
+ghost use Rattle.world_core.specs.Courses.{network_of};
 ghost use Rattle.world_core.specs.Held.{IsHeld, LastsAreBy};
+ghost use Rattle.world_core.specs.Left.{units_after};
+ghost use Rattle.world_core.specs.SeenTurns.{seen};
 ghost use Rattle.world_core.specs.Sits.{Sits};
 ghost use Rattle.world_core.specs.Units.{states_of};
+ghost use Rattle.world_core.specs.Walked.{Stays, bare_of};
 ghost use Rattle.world_core.specs.declared.standing.Standing.{Standing as standing};
 
 use crate::course::Course;
@@ -61,5 +66,36 @@ impl Course {
             is_new: call.is_new,
             out,
         }))
+    }
+
+    /// The sessions of all nodes that take part, each from what the buses were before the first.
+    pub(crate) fn sit_all<E: Ecu>(
+        &mut self,
+        alloc: Global,
+        ecus: &mut Vec<E>,
+        shared: &mut E::Shared,
+        now: u64,
+    ) -> Result<Vec<Turn>, AllocError>
+        requires held { IsHeld E.Ecu self.old ecus.old.items shared.old }
+        requires sound { All Sound self.old.buses }
+        requires early { now ≤ 2 ^ 62 }
+        requires last { LastsAreBy now self.old.standings }
+        ensures held { OnOk result (IsHeld E.Ecu self.new ecus.new.items shared.new) }
+        ensures stays { OnOk result (Stays self.old self.new) }
+        ensures nodes { OnOk result ((network_of self.new (states_of E.Ecu ecus.new.items shared.new)).nodes
+            ≡ map (node_after (units_of E.answer E.phase_of self.old.plan) self.old.buses now) (network_of self.old (states_of E.Ecu ecus.old.items shared.old)).nodes) }
+        ensures units { OnOk result (states_of E.Ecu ecus.new.items shared.new
+            ≡ units_after (units_of E.answer E.phase_of self.old.plan) self.old.buses now (network_of self.old (states_of E.Ecu ecus.old.items shared.old)).nodes (states_of E.Ecu ecus.old.items shared.old)) }
+        ensures turns { IfOk result (λ turns. map (seen self.old.plan.nodes) turns.items
+            ≡ map bare_of (turns_of (units_of E.answer E.phase_of self.old.plan) self.old.buses now (network_of self.old (states_of E.Ecu ecus.old.items shared.old)).nodes)) }
+        ensures there { IfOk result (λ turns. All (λ x. x.node < length self.old.plan.nodes) turns.items) }
+    {
+        let mut turns = Vec::new(alloc);
+        for node in 0..self.nodes.len() as u32 {
+            if let Some(turn) = self.sit(alloc, ecus, shared, node, now)? {
+                turns.push(turn)?;
+            }
+        }
+        Ok(turns)
     }
 }
