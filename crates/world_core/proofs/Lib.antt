@@ -23,3 +23,4 @@ pub mod Moved
 pub mod Seating
 pub mod NodeSteps
 pub mod NodeWalk
+pub mod Bareness

@@ -144,18 +144,18 @@ module _ {E G S : Type 0} (g : Ghosts E G S) (c : Course) (es : List E) (shared 
             (entries-before now (node * 8) (length n.description.countdown) out.dues c.clocks room few each out.end)
             (entries-beyond now (node * 8) (length n.description.countdown) out.dues c.clocks room few each out.end)
             (unset-behind now (node * 8) n t sat.state sat.state out c.clocks room few each
-                (has-clocks c.buses c.plan.resolution now node n (drop (node * 8) c.clocks) call t is)
-                (unset-at node c.plan.nodes c.standings c.clocks n t here standing held.arranged.unset) out.end)
+            (has-clocks c.buses c.plan.resolution now node n (drop (node * 8) c.clocks) call t is)
+            (unset-at node c.plan.nodes c.standings c.clocks n t here standing held.arranged.unset) out.end)
             held.arranged.unset;
       };
       each = many ∙ held.each;
       phases =
-        let P : Standing → S → Type 0 = λ t s. IsInPhase t (g.phase_of s) in
-        let after : S = (session_of g.answer g.phase_of n.description call.input sat.state).1 in
-        map-pair P (λ e. g.state e shared') (slice_set c.standings node (standing_behind now out.end)) es'
-        (subst (Pairwise P (slice_set c.standings node (standing_behind now out.end))) (sym sat.behind)
-        (pair-set P node c.standings (states_of g es shared) (standing_behind now out.end) after (in-phase now out.end (g.phase_of after) sat.phase)
-        (pair-map P (λ e. g.state e shared) c.standings es held.phases)));
+          let P : Standing → S → Type 0 = λ t s. IsInPhase t (g.phase_of s) in
+          let after : S = (session_of g.answer g.phase_of n.description call.input sat.state).1 in
+          map-pair P (λ e. g.state e shared') (slice_set c.standings node (standing_behind now out.end)) es'
+          (subst (Pairwise P (slice_set c.standings node (standing_behind now out.end))) (sym sat.behind)
+          (pair-set P node c.standings (states_of g es shared) (standing_behind now out.end) after (in-phase now out.end (g.phase_of after) sat.phase)
+          (pair-map P (λ e. g.state e shared) c.standings es held.phases)));
       apart = apart;
     }
 
@@ -174,8 +174,8 @@ module _ {E G S : Type 0} (g : Ghosts E G S) (now node : ℕ) (n : NodePlan) (t 
       → Sits g now node m (call_of c'.buses c'.plan.resolution now node m u (drop (node * 8) c'.clocks)) turn c' after ss states
   sits-at h =
       subst (λ (c' : Course). (m : NodePlan) (u : Standing) → slice_get c'.plan.nodes node ≡ Some m → slice_get c'.standings node ≡ Some u
-          → Sits g now node m (call_of c'.buses c'.plan.resolution now node m u (drop (node * 8) c'.clocks)) turn c' after ss states) view
+      → Sits g now node m (call_of c'.buses c'.plan.resolution now node m u (drop (node * 8) c'.clocks)) turn c' after ss states) view
       (λ m u a b.
-          subst (λ k. Sits g now node k (call_of c.buses c.plan.resolution now node k u (drop (node * 8) c.clocks)) turn c after ss states) (same-at c.plan.nodes node n m here a)
-          (subst (λ v. Sits g now node n (call_of c.buses c.plan.resolution now node n v (drop (node * 8) c.clocks)) turn c after ss states) (same-at c.standings node t u standing b)
-          (subst (λ q. Sits g now node n q turn c after ss states) is h)))
+      subst (λ k. Sits g now node k (call_of c.buses c.plan.resolution now node k u (drop (node * 8) c.clocks)) turn c after ss states) (same-at c.plan.nodes node n m here a)
+      (subst (λ v. Sits g now node n (call_of c.buses c.plan.resolution now node n v (drop (node * 8) c.clocks)) turn c after ss states) (same-at c.standings node t u standing b)
+      (subst (λ q. Sits g now node n q turn c after ss states) is h)))

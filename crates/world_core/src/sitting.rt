@@ -39,7 +39,7 @@ impl Course {
         ensures last { OnOk result (LastsAreBy now self.new.standings) }
         ensures sits { IfOk result (λ turn. (n : node_plan) (t : standing) → slice_get self.old.plan.nodes node ≡ Some n → slice_get self.old.standings node ≡ Some t
             → Sits E.Ecu now node n (called self.old.buses self.old.plan.resolution now node n t (drop (node * 8) self.old.clocks)) turn self.old self.new
-              (states_of E.Ecu ecus.old.items shared.old) (states_of E.Ecu ecus.new.items shared.new)) }
+            (states_of E.Ecu ecus.old.items shared.old) (states_of E.Ecu ecus.new.items shared.new)) }
     {
         let plan = &self.nodes[node as usize];
         let standing = self.standings[node as usize];

@@ -93,8 +93,8 @@ returns-clause-held g c =
     let out = c.in_ok-out.out in
     let sat = subst (λ d. Sat g.E.Ecu d c.in-Some.call.input c.args.node (states_of g.E.Ecu c.args.ecus.now.items c.args.shared.now) out (states_of g.E.Ecu c.session_at.new.ecus.items c.session_at.new.shared)) described c.in_ok-out.ensures.sat in
     let after = settled-course x _ (slice_set x.standings c.args.node (standing_behind c.args.now out.end)) _ (entries_behind c.args.now (c.args.node * 8) (length c.index-plan.result.now.description.countdown) out.end out.dues x.clocks)
-        (ap (slice_set x.standings c.args.node) (c.standing_behind.ensures ∙ ap (standing_behind c.args.now) ended))
-        (c.settle_entries.ensures ∙ ap (λ k. entries_behind c.args.now (c.args.node * 8) k out.end out.dues x.clocks) counted) in
+    (ap (slice_set x.standings c.args.node) (c.standing_behind.ensures ∙ ap (standing_behind c.args.now) ended))
+    (c.settle_entries.ensures ∙ ap (λ k. entries_behind c.args.now (c.args.node * 8) k out.end out.dues x.clocks) counted) in
     subst (λ (y : Course). IsHeld g.E.Ecu y c.session_at.new.ecus.items c.session_at.new.shared) (sym after)
     (held-behind g.E.Ecu x c.args.ecus.now.items c.args.shared.now c.args.now c.args.node c.index-plan.result.now c.index-standing.result.now c.in-Some.call refl held here standing is out c.session_at.new.ecus.items c.session_at.new.shared sat c.in_ok-out.ensures.apart c.in_ok-out.ensures.each)
 
@@ -121,8 +121,8 @@ returns-clause-sits g c =
     let out = c.in_ok-out.out in
     let sat = subst (λ d. Sat g.E.Ecu d c.in-Some.call.input c.args.node (states_of g.E.Ecu c.args.ecus.now.items c.args.shared.now) out (states_of g.E.Ecu c.session_at.new.ecus.items c.session_at.new.shared)) described c.in_ok-out.ensures.sat in
     let after = settled-course x _ (slice_set x.standings c.args.node (standing_behind c.args.now out.end)) _ (entries_behind c.args.now (c.args.node * 8) (length c.index-plan.result.now.description.countdown) out.end out.dues x.clocks)
-        (ap (slice_set x.standings c.args.node) (c.standing_behind.ensures ∙ ap (standing_behind c.args.now) ended))
-        (c.settle_entries.ensures ∙ ap (λ k. entries_behind c.args.now (c.args.node * 8) k out.end out.dues x.clocks) counted) in
+    (ap (slice_set x.standings c.args.node) (c.standing_behind.ensures ∙ ap (standing_behind c.args.now) ended))
+    (c.settle_entries.ensures ∙ ap (λ k. entries_behind c.args.now (c.args.node * 8) k out.end out.dues x.clocks) counted) in
     sits-at g.E.Ecu c.args.now c.args.node c.index-plan.result.now c.index-standing.result.now (Some c.in-Some.call) _ x c.args.self.now _ (states_of g.E.Ecu c.args.ecus.now.items c.args.shared.now) (states_of g.E.Ecu c.session_at.new.ecus.items c.session_at.new.shared)
     c.self.view_is here standing is
     (record { sat = sat; number = refl; newness = refl; course = after })
