@@ -1,6 +1,6 @@
 -- Turns without the states of the units do the same, and nodes may have them.
-use Rattle.std.proofs.Common.{◌≡◌, ◌<◌, ◌≤◌, ◌+◌, ◌*◌, ◌^◌, ◌⊎◌, ℕ, Bool, true, false, if◌then◌else◌, List, [], ◌∷◌, All, fold, length, map, arith, refl, sym, ap, ◌∙◌, subst, inl, inr}
-use Rattle.std.specs.Prelude.{◌==◌, ◌||◌}
+use Rattle.std.proofs.Common.{◌≡◌, ◌<◌, ◌≤◌, ◌+◌, ◌*◌, ◌^◌, ◌⊎◌, ℕ, true, false, if◌then◌else◌, List, [], ◌∷◌, All, fold, length, map, arith, refl, sym, ap, ◌∙◌, inl, inr}
+use Rattle.std.specs.Prelude.{◌==◌}
 use Rattle.std.proofs.Math.Nat.{mul-le-mul_left}
 use Rattle.std.proofs.lemmas.Bool.{both_ways, ne_eqb}
 use Rattle.std.proofs.lemmas.List.{length-map}
@@ -14,15 +14,15 @@ use Rattle.bus_sound.proofs.Among.{Among}
 use Rattle.bus_sound.proofs.Lists.{All-each, each-All}
 use Rattle.bus_sound.proofs.Members.{is_from, is_to}
 use Rattle.world_specs.specs.Units.{Units}
-use Rattle.world_specs.specs.World.{Node, Standing, New, Live, Down, Over, World}
+use Rattle.world_specs.specs.World.{Standing, New, Live, Down, Over, World}
 use Rattle.world_specs.specs.Fits.{Fits, UnitsFit}
 use Rattle.world_specs.specs.Sessions.{Turn, is_new, turn_step, turns, turns_step, with_entered}
 use Rattle.world_laws.specs.Words.{AllCounted, IsCounted}
 use Rattle.world_laws.proofs.Counted.{turn-count}
 use Rattle.world_laws.proofs.Fitting.{differ, emitted-bytes, may-turn}
 use Rattle.world_laws.proofs.Lists.{all-map}
-use Rattle.world_laws.proofs.Sounded.{Differ, MayTurn}
-use Rattle.world_core.specs.Bare.{AreTurns, Bare, IsExpected, bare, standing_if}
+use Rattle.world_laws.proofs.Sounded.{Differ}
+use Rattle.world_core.specs.Bare.{AreTurns, Bare, IsExpected, standing_if}
 use Rattle.world_core.specs.Walked.{bare_of}
 
 module _ {S : Type 0} where

@@ -1,5 +1,5 @@
 -- A node behind its session is the one that the definitions name.
-use Rattle.std.proofs.Common.{◌≡◌, ◌≤◌, ◌<◌, ◌+◌, ◌*◌, ◌||◌, ℕ, zero, suc, Bool, true, false, if◌then◌else◌, List, [], ◌∷◌, All, drop, length, map, take, Option, Some, None, get_or, slice_get, slice_set, arith, refl, sym, ap, ◌∙◌, subst}
+use Rattle.std.proofs.Common.{◌≡◌, ◌||◌, ℕ, zero, suc, Bool, true, false, if◌then◌else◌, List, [], ◌∷◌, length, map, take, Option, Some, None, get_or, slice_get, refl, sym, ap, ◌∙◌}
 use Rattle.std.specs.List.{list_any, slice_index_or}
 use Rattle.fmi_states.specs.declared.phase.Phase.{Phase}
 use Rattle.fmi_states.specs.declared.call.Call as unit
@@ -7,16 +7,11 @@ use Rattle.fmi_states.specs.declared.reply.Reply.{Reply}
 use Rattle.unit_specs.specs.Description.{Description}
 use Rattle.bus_specs.specs.Bus.{Bus}
 use Rattle.bus_specs.specs.Inbox.{has_inbox}
-use Rattle.session_specs.specs.Outcome.{SessionIn, SessionOut}
+use Rattle.session_specs.specs.Outcome.{SessionIn}
 use Rattle.session_specs.specs.Session as session
-use Rattle.world_specs.specs.Units.{Units}
-use Rattle.world_specs.specs.World.{Node}
-use Rattle.world_specs.specs.World as model
 use Rattle.world_specs.specs.Plan.{NodePlan, Plan, description_of, units_of}
-use Rattle.world_specs.specs.Sessions.{is_new, node_after, node_behind, session_from, session_of, standing_after, takes_part, ticks}
+use Rattle.world_specs.specs.Sessions.{is_new, session_from, session_of, ticks}
 use Rattle.world_core.specs.Called.{call_of, input_at, ticked_of}
-use Rattle.world_core.specs.Courses.{standing_of}
-use Rattle.world_core.specs.Settled.{entries_behind, standing_behind}
 use Rattle.world_core.specs.declared.sessions.Call.{Call}
 use Rattle.world_core.specs.declared.standing.Standing.{Standing}
 use Rattle.world_core.specs.declared.standing.Standing.TheVariants.{New, Live, Down, Over}

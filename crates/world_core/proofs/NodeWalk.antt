@@ -1,11 +1,11 @@
 -- The nodes' sessions, one after the other.
-use Rattle.std.proofs.Common.{◌≡◌, ◌≤◌, ◌<◌, ◌+◌, ◌*◌, ℕ, zero, suc, Bool, true, false, List, [], ◌∷◌, ◌++◌, All, drop, length, map, take, Option, Some, None, option_map, slice_get, slice_set, arith, refl, sym, ap, ◌∙◌, subst, append_assoc}
+use Rattle.std.proofs.Common.{◌≡◌, ◌≤◌, ◌<◌, ◌+◌, ◌*◌, ℕ, zero, suc, List, [], ◌∷◌, ◌++◌, All, drop, length, map, take, Option, Some, None, option_map, slice_get, slice_set, arith, refl, sym, ap, ◌∙◌, subst, append_assoc}
 use Rattle.std.specs.List.{cons_option}
 use Rattle.std.proofs.lemmas.List.{append-nil, length-map, map-append}
 use Rattle.std.proofs.lemmas.List.Elements.{All-cons, All-head, All-nil, All-tail}
 use Rattle.fmi_states.specs.declared.ecu.Ecu.{Ghosts}
 use Rattle.bus_specs.specs.Bus.{Bus}
-use Rattle.session_specs.specs.Outcome.{End, SessionOut}
+use Rattle.session_specs.specs.Outcome.{SessionOut}
 use Rattle.session_specs.specs.Session as session
 use Rattle.world_specs.specs.Units.{Units}
 use Rattle.world_specs.specs.World.{Node}
@@ -13,7 +13,7 @@ use Rattle.world_specs.specs.Plan.{NodePlan, IsNodePlan, units_of}
 use Rattle.world_specs.specs.Sessions.{is_new, node_after, node_behind, session_of, standing_after, turn_of, turns}
 use Rattle.world_specs.specs.Sessions as model
 use Rattle.world_specs.specs.World as model_world
-use Rattle.world_core.specs.Bare.{Bare, bare}
+use Rattle.world_core.specs.Bare.{bare}
 use Rattle.world_core.specs.Called.{call_of}
 use Rattle.world_core.specs.Courses.{Course, network_of, nodes_from, standing_of}
 use Rattle.world_core.specs.Held.{IsHeld, LastsAreBy}

@@ -1,11 +1,11 @@
 -- The session of one node of a network: what it may be given, and what holds of the network behind it.
-use Rattle.std.proofs.Common.{◌≡◌, ◌≤◌, ◌<◌, ◌+◌, ◌*◌, ◌^◌, ℕ, zero, suc, true, false, List, [], ◌∷◌, All, drop, length, map, Option, Some, None, slice_get, slice_set, arith, refl, sym, ap, ◌∙◌, subst}
+use Rattle.std.proofs.Common.{◌≡◌, ◌≤◌, ◌<◌, ◌+◌, ◌*◌, ◌^◌, ℕ, zero, suc, true, List, [], ◌∷◌, All, drop, length, map, Option, Some, None, slice_get, slice_set, arith, refl, sym, ap, ◌∙◌, subst}
 use Rattle.std.proofs.lemmas.List.{length-map}
 use Rattle.std.proofs.lemmas.List.Elements.{All-cons, All-head, All-tail}
 use Rattle.std.proofs.lemmas.Option.{slice_get_within}
 use Rattle.fmi_states.specs.declared.ecu.Ecu.{Ghosts}
 use Rattle.fmi_states.specs.declared.phase.Phase.{Phase}
-use Rattle.fmi_states.specs.declared.phase.Phase.TheVariants.{Fresh, Step}
+use Rattle.fmi_states.specs.declared.phase.Phase.TheVariants.{Step}
 use Rattle.bus_specs.specs.Bus.{Bus}
 use Rattle.bus_specs.specs.Sound.{Sound}
 use Rattle.unit_specs.specs.Description.{Description}
@@ -27,7 +27,7 @@ use Rattle.world_core.specs.declared.turns.Turn.{Turn}
 use Rattle.world_core.specs.declared.standing.Standing.{Standing}
 use Rattle.world_core.specs.declared.standing.Standing.TheVariants.{New, Live, Down, Over}
 use Rattle.world_core.proofs.Holding.{HasClocks, entries-before, entries-beyond, entries-length, in-phase, map-pair, pair-map, pair-set, unset-behind}
-use Rattle.world_core.proofs.Inputs.{At, at-place, call-input}
+use Rattle.world_core.proofs.Inputs.{at-place, call-input}
 use Rattle.world_core.proofs.Moved.{state-at}
 use Rattle.world_core.proofs.Numbered.{all-at, numbered}
 use Rattle.world_core.proofs.Placing.{pair-at, unset-at, unset-set}

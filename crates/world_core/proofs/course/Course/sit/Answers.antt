@@ -1,4 +1,4 @@
-use Rattle.std.proofs.Common.{◌≡◌, ◌<◌, ◌*◌, All, List, drop, length, map, Option, Some, None, slice_get, slice_set, ap, refl, sym, ◌∙◌, subst, arith}
+use Rattle.std.proofs.Common.{◌≡◌, ◌<◌, ◌*◌, All, List, drop, length, Some, None, slice_get, slice_set, ap, refl, sym, ◌∙◌, subst, arith}
 use Rattle.std.proofs.lemmas.Option.{slice_get_read}
 use Rattle.unit_specs.specs.Description.{Description}
 use Rattle.bus_specs.specs.Bus.{Bus}
@@ -11,11 +11,8 @@ use Rattle.world_core.specs.Courses.{Course}
 use Rattle.world_core.specs.Held.{IsHeld, LastsAreBy}
 use Rattle.world_core.specs.OnBuses.{AreNumbered}
 use Rattle.world_core.specs.Settled.{entries_behind, standing_behind}
-use Rattle.world_core.specs.Sits.{Sits}
 use Rattle.world_core.specs.Sitting.{IsInput, Sat}
 use Rattle.world_core.specs.Units.{states_of}
-use Rattle.world_core.specs.declared.sessions.Call.{Call}
-use Rattle.world_core.specs.declared.standing.Standing.{Standing}
 use Rattle.world_core.proofs.Numbered.{numbered}
 use Rattle.world_core.proofs.Seating.{dues-each, held-behind, input-fits, lasts-behind, may-sit, settled-course, sits-at}
 use Rattle.world_core.proofs.course.Course.sit.Goals as goal

@@ -1,7 +1,6 @@
-use Rattle.std.proofs.Common.{◌≡◌, ◌≤◌, ◌<◌, ◌++◌, All, Global, List, [], Vec, length, map, subst, sym, ap, ◌∙◌, refl, arith}
+use Rattle.std.proofs.Common.{◌≡◌, ◌≤◌, ◌<◌, ◌++◌, All, Global, [], Vec, length, subst, sym, ap, ◌∙◌, arith}
 use Rattle.std.specs.List.{cons_option}
 use Rattle.std.proofs.lemmas.List.{append-nil}
-use Rattle.bus_specs.specs.Bus.{Bus}
 use Rattle.bus_specs.specs.Sound.{Sound}
 use Rattle.world_core.specs.Courses.{Course}
 use Rattle.world_core.specs.declared.turns.Turn.{Turn}
