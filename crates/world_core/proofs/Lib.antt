@@ -20,3 +20,4 @@ pub mod Inputs
 pub mod TurnSteps
 pub mod TurnSeen
 pub mod Moved
+pub mod Acting
