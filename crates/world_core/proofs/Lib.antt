@@ -21,3 +21,4 @@ pub mod TurnSteps
 pub mod TurnSeen
 pub mod Moved
 pub mod Acting
+pub mod Turned
