@@ -21,4 +21,5 @@ pub mod TurnSteps
 pub mod TurnSeen
 pub mod Moved
 pub mod Acting
+pub mod Expecting
 pub mod Turned

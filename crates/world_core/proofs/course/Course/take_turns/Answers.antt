@@ -26,5 +26,5 @@ returns-clause-state c =
     let ok : IsPlan before.plan = subst (λ (x : Course). IsPlan x.plan) (sym c.self.view_is) c.requires.plan in
     rw (← c.self.view_is) (on_ok_weaker c.take_turns.result
     (λ e. same-course before c.take_turns.new.buses.items _ (e ∙ ap (λ ns. (turns_step c.args.now c.self.inside.buses.items (map (seen ns) c.args.turns.now)).0) c.deref.ensures.value)
-        (plans-turned c.args.now xs before.plan c.self.inside.buses.items ok refl) refl)
+    (plans-turned c.args.now xs before.plan c.self.inside.buses.items ok refl) refl)
     c.take_turns.ensures.buses)
