@@ -24,3 +24,5 @@ pub mod Seating
 pub mod NodeSteps
 pub mod NodeWalk
 pub mod Bareness
+pub mod Acting
+pub mod Turned
