@@ -12,6 +12,7 @@ use Rattle.world_specs.specs.Plan.{NodePlan, IsNodePlan}
 use Rattle.world_specs.specs.Sessions.{inbox_on, ticking_from, ticks}
 use Rattle.world_laws.proofs.Lists.{all-map}
 use Rattle.world_core.specs.Called.{call_of, input_at, ticked_of}
+use Rattle.world_core.specs.Held.{LastIsBy}
 use Rattle.world_core.specs.OnBuses.{AreNumbered}
 use Rattle.world_core.specs.Sitting.{IsInput}
 use Rattle.world_core.specs.declared.sessions.Call.{Call}
@@ -105,14 +106,7 @@ module _ (bs : List Bus) (resolution now node : ℕ) (n : NodePlan) (numbered : 
     short = all-map (λ bus. bus < length bs) (λ bytes. length bytes ≤ 175) (inbox_on bs now node) n.buses (λ bus a k. inbox-length bs now node bus numbered sound k) plan.there;
   }
 
-  -- the last session of a live node was no later
-  abbrev pub LastIsBy : Standing → Type 0
-  LastIsBy New = Unit {0}
-  LastIsBy (Live last) = last ≤ now
-  LastIsBy Down = Unit {0}
-  LastIsBy Over = Unit {0}
-
-  pub call-input : (t : Standing) (cs : List (Option ℕ)) (call : Call) → LastIsBy t → Some call ≡ call_of bs resolution now node n t cs → IsInput n.description call.input
+  pub call-input : (t : Standing) (cs : List (Option ℕ)) (call : Call) → LastIsBy now t → Some call ≡ call_of bs resolution now node n t cs → IsInput n.description call.input
   call-input New cs call l e =
       let made : Call = record { is_new = true; input = input_at bs resolution now node n 0 [] } in
       let same : call ≡ made = cc in

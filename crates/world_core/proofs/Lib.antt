@@ -20,3 +20,9 @@ pub mod Inputs
 pub mod TurnSteps
 pub mod TurnSeen
 pub mod Moved
+pub mod Seating
+pub mod NodeSteps
+pub mod NodeWalk
+pub mod Bareness
+pub mod Acting
+pub mod Turned

@@ -141,7 +141,7 @@ names-there p bs i n h e g =
 
 -- ---- what a bus was made from stays
 
-nodes-map : (f : Member → Member) → ((m : Member) → (f m).node ≡ m.node) → (ms : List Member) → map (λ m. m.node) (map f ms) ≡ map (λ m. m.node) ms
+pub nodes-map : (f : Member → Member) → ((m : Member) → (f m).node ≡ m.node) → (ms : List Member) → map (λ m. m.node) (map f ms) ≡ map (λ m. m.node) ms
 nodes-map f k [] = refl
 nodes-map f k (m ∷ ms) = rw (k m, nodes-map f k ms) refl
 

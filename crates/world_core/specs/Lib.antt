@@ -13,3 +13,7 @@ pub mod SeenTurns
 pub mod Sitting
 pub mod Settled
 pub mod Called
+pub mod Held
+pub mod Sits
+pub mod Left
+pub mod Walked

@@ -1,5 +1,5 @@
 //! What happens on one bus.
-ghost use Rattle.std.specs.Prelude.{◌≡◌, ◌≤◌, ◌<◌, ◌^◌, All, IfOk, OnOk};
+ghost use Rattle.std.specs.Prelude.{◌≡◌, ◌≤◌, ◌<◌, ◌+◌, ◌^◌, All, IfOk, OnOk};
 ghost use Rattle.bus_specs.specs.Due.{Finish, Return, Start, at};
 ghost use Rattle.bus_specs.specs.Finish as model;
 ghost use Rattle.bus_specs.specs.Start.{start as start_of};
@@ -76,6 +76,7 @@ impl Course {
         requires moment { now ≤ 2 ^ 62 }
         ensures state { OnOk result (self.new ≡ record self.old { buses = buses_with bus (λ b. model.finish b now) self.old.buses }) }
         ensures lines { IfOk result (λ lines. lines ≡ lines_with bus (λ b. model.finish b now) self.old.buses) }
+        ensures events { self.new.events ≡ self.old.events }
     {
         finish_on(alloc, &mut self.buses, bus, now)
     }
@@ -92,6 +93,7 @@ impl Course {
         requires due { IsDueOn self.old.buses bus (at (Return node) now) }
         ensures state { OnOk result (self.new ≡ record self.old { buses = buses_with bus (λ b. model.recover b now node) self.old.buses }) }
         ensures lines { IfOk result (λ lines. lines ≡ lines_with bus (λ b. model.recover b now node) self.old.buses) }
+        ensures events { self.new.events ≡ self.old.events }
     {
         recover_on(alloc, &mut self.buses, bus, node, now)
     }
@@ -109,7 +111,17 @@ impl Course {
         requires attempts { All (λ b. b.attempts < 2 ^ 63) self.old.buses }
         ensures state { OnOk result (self.new ≡ record self.old { buses = buses_with bus (λ b. start_of b now) self.old.buses }) }
         ensures lines { IfOk result (λ lines. lines ≡ lines_with bus (λ b. start_of b now) self.old.buses) }
+        ensures events { self.new.events ≡ self.old.events }
     {
         start_on(alloc, &mut self.buses, bus, now)
+    }
+
+    /// An event has happened at this moment.
+    pub(crate) fn count(&mut self, moment: u64)
+        requires room { self.old.events < 2 ^ 62 }
+        ensures { self.new ≡ record self.old { events = self.old.events + 1; now = moment } }
+    {
+        self.events += 1;
+        self.now = moment;
     }
 }

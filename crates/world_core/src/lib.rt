@@ -9,6 +9,7 @@ mod next;
 mod opening;
 mod plan;
 mod sessions;
+mod sitting;
 mod standing;
 mod turns;
 mod units;

@@ -4,12 +4,14 @@ ghost use Rattle.bus_specs.specs.Bus.{is};
 ghost use Rattle.bus_specs.specs.Inbox.{enter, leave, take_inbox};
 ghost use Rattle.bus_log.specs.Lines.{line_of};
 ghost use Rattle.bus_ops.specs.Views.{items_of};
+ghost use Rattle.world_specs.specs.Plan.{IsPlan};
 ghost use Rattle.world_specs.specs.Sessions.{emission_step, end_step, on_each_bus, turn_step, turns_step};
 ghost use Rattle.world_core.specs.Asks.{MaySubmit, submitted};
 ghost use Rattle.world_core.specs.Bare.{AreTurns, EmitsBytes, IsExpected, IsReadyFor, emitted_step};
 ghost use Rattle.world_core.specs.SeenTurns.{entered, seen, seen_turn};
 ghost use Rattle.world_core.specs.OnBuses.{AreNumbered};
 
+use crate::course::Course;
 use crate::plan::NodePlan;
 use bus_log::{Line, LineList};
 use bus_medium::Medium;
@@ -243,4 +245,25 @@ pub(crate) fn take_turns(
         take_turn(alloc, buses, plan.buses.as_slice(), now, turn, &mut lines)?;
     }
     Ok(LineList::of(lines))
+}
+
+impl Course {
+    /// The turns of the nodes that had sessions at this moment, and their lines.
+    pub(crate) fn take_turns(
+        &mut self,
+        alloc: Global,
+        now: u64,
+        turns: &[Turn],
+    ) -> Result<LineList, AllocError>
+        requires plan { IsPlan self.old.plan }
+        requires there { All (λ x. x.node < length self.old.plan.nodes) turns.now }
+        requires expected { All (IsExpected (map (seen self.old.plan.nodes) turns.now)) self.old.buses }
+        requires turns { AreTurns (map (seen self.old.plan.nodes) turns.now) }
+        requires moment { now ≤ 2 ^ 62 }
+        ensures state { OnOk result (self.new ≡ record self.old { buses = (turns_step now self.old.buses (map (seen self.old.plan.nodes) turns.now)).0 }) }
+        ensures lines { IfOk result (λ lines. lines ≡ (turns_step now self.old.buses (map (seen self.old.plan.nodes) turns.now)).1) }
+        ensures events { self.new.events ≡ self.old.events }
+    {
+        take_turns(alloc, &self.nodes, &mut self.buses, now, turns)
+    }
 }

@@ -1,8 +1,9 @@
 //! A network and its units.
-ghost use Rattle.std.specs.Prelude.{◌≡◌, ◌<◌, All, IfOk, Some, false, length, option_map, slice_get};
+ghost use Rattle.std.specs.Prelude.{◌≡◌, ◌<◌, All, IfOk, OnErr, OnOk, Some, true, false, length, option_map, slice_get};
 ghost use Rattle.fmi_states.specs.declared.phase.Phase.TheVariants.{Fresh};
-ghost use Rattle.world_specs.specs.Next.{next_event};
-ghost use Rattle.world_specs.specs.Plan.{IsPlan};
+ghost use Rattle.world_specs.specs.Next.{Finish, Return, Start, at, next_event};
+ghost use Rattle.world_specs.specs.Plan.{IsPlan, units_of};
+ghost use Rattle.world_specs.specs.Step.{event_lines, world_behind};
 ghost use Rattle.world_core.specs.Events.{event_of};
 ghost use Rattle.world_core.specs.Seen.{opened};
 ghost use Rattle.world_core.specs.Units.{AreApart, states_of};
@@ -10,6 +11,7 @@ ghost use Rattle.world_core.specs.Units.{AreApart, states_of};
 use crate::course::Course;
 use crate::event::Event;
 use crate::plan::Plan;
+use bus_log::LineList;
 use fmi_states::Ecu;
 use std::alloc::{AllocError, Global};
 use std::marker::Model;
@@ -109,5 +111,62 @@ impl<E: Ecu> World<E> {
         ensures { result.now ≡ self.now.shared }
     {
         &self.shared
+    }
+
+    /// The running frame of a bus comes to its end.
+    fn finish(&mut self, alloc: Global, bus: u32, moment: u64) -> Result<LineList, AllocError>
+        requires goes_on { self.old.failed ≡ false }
+        requires next { next_event self.old.plan.stop self.old.network ≡ Some (at (Finish bus) moment) }
+        requires budget { self.old.network.events < self.old.plan.events }
+        ensures state { OnOk result (self.new ≡ record self.old { network = world_behind (units_of E.answer E.phase_of self.old.plan) self.old.network (at (Finish bus) moment) }) }
+        ensures lines { IfOk result (λ lines. lines ≡ event_lines (units_of E.answer E.phase_of self.old.plan) self.old.network (at (Finish bus) moment)) }
+        ensures fails { OnErr result (self.new.failed ≡ true) }
+        ensures events { OnErr result (self.new.network.events ≡ self.old.network.events) }
+    {
+        self.failed = true;
+        let lines = self.course.finish(alloc, bus, moment)?;
+        self.course.count(moment);
+        self.failed = false;
+        Ok(lines)
+    }
+
+    /// A node that is off returns on a bus.
+    fn recover(
+        &mut self,
+        alloc: Global,
+        bus: u32,
+        node: u32,
+        moment: u64,
+    ) -> Result<LineList, AllocError>
+        requires goes_on { self.old.failed ≡ false }
+        requires next { next_event self.old.plan.stop self.old.network ≡ Some (at (Return bus node) moment) }
+        requires budget { self.old.network.events < self.old.plan.events }
+        ensures state { OnOk result (self.new ≡ record self.old { network = world_behind (units_of E.answer E.phase_of self.old.plan) self.old.network (at (Return bus node) moment) }) }
+        ensures lines { IfOk result (λ lines. lines ≡ event_lines (units_of E.answer E.phase_of self.old.plan) self.old.network (at (Return bus node) moment)) }
+        ensures fails { OnErr result (self.new.failed ≡ true) }
+        ensures events { OnErr result (self.new.network.events ≡ self.old.network.events) }
+    {
+        self.failed = true;
+        let lines = self.course.recover(alloc, bus, node, moment)?;
+        self.course.count(moment);
+        self.failed = false;
+        Ok(lines)
+    }
+
+    /// A frame starts on a bus.
+    fn start(&mut self, alloc: Global, bus: u32, moment: u64) -> Result<LineList, AllocError>
+        requires goes_on { self.old.failed ≡ false }
+        requires next { next_event self.old.plan.stop self.old.network ≡ Some (at (Start bus) moment) }
+        requires budget { self.old.network.events < self.old.plan.events }
+        ensures state { OnOk result (self.new ≡ record self.old { network = world_behind (units_of E.answer E.phase_of self.old.plan) self.old.network (at (Start bus) moment) }) }
+        ensures lines { IfOk result (λ lines. lines ≡ event_lines (units_of E.answer E.phase_of self.old.plan) self.old.network (at (Start bus) moment)) }
+        ensures fails { OnErr result (self.new.failed ≡ true) }
+        ensures events { OnErr result (self.new.network.events ≡ self.old.network.events) }
+    {
+        self.failed = true;
+        let lines = self.course.start(alloc, bus, moment)?;
+        self.course.count(moment);
+        self.failed = false;
+        Ok(lines)
     }
 }

@@ -160,7 +160,7 @@ turns-within t xs b few =
     record { next = omega (arith, m, n); attempts = omega (arith, i, j); few = more.few }
 
 -- no more turns than nodes
-turn-count : {S : Type 0} (u : Units S) (bs : List Bus) (t : ℕ) (ns : List (Node S)) → length (turns u bs t ns) ≤ length ns
+pub turn-count : {S : Type 0} (u : Units S) (bs : List Bus) (t : ℕ) (ns : List (Node S)) → length (turns u bs t ns) ≤ length ns
 turn-count u bs t [] = omega arith
 turn-count {S} u bs t (n ∷ ns) = go (turn_of u bs t n) (turn-count u bs t ns)
   where

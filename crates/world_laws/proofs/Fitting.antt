@@ -230,7 +230,7 @@ module _ {S : Type 0} (u : Units S) (w : World S) (h : Fits w) where
 
   -- ---- sound
 
-  differ : (t : ℕ) (ns : List (Node S)) → AreDistinct (map (λ n. n.number) ns) → Differ t (turns u w.buses t ns)
+  pub differ : (t : ℕ) (ns : List (Node S)) → AreDistinct (map (λ n. n.number) ns) → Differ t (turns u w.buses t ns)
   differ t [] d = tt
   differ t (n ∷ ns) d = go (turn_of u w.buses t n) refl (differ t ns d.1)
     where
@@ -243,7 +243,7 @@ module _ {S : Type 0} (u : Units S) (w : World S) (h : Fits w) where
           own : (x : Turn S) → turn_of u w.buses t n ≡ Some x → x.node.number ≡ n.number
           own x e = ap (λ (m : Node S). m.number) (turn-is u w.buses t n x e).node
 
-  emitted-bytes : UnitsFit u → (t : ℕ) (x : Turn S) → Among (turns u w.buses t w.nodes) x → All (λ e. AreBytes e.bytes) x.out.emitted
+  pub emitted-bytes : UnitsFit u → (t : ℕ) (x : Turn S) → Among (turns u w.buses t w.nodes) x → All (λ e. AreBytes e.bytes) x.out.emitted
   emitted-bytes fit t x a =
       let r = turn-among u w.buses t w.nodes x a in
       from r.0 (r.0).standing (takes_part w.buses t r.0) refl (r.2).state (r.2).session
@@ -266,7 +266,7 @@ module _ {S : Type 0} (u : Units S) (w : World S) (h : Fits w) where
       from : (n : Node S) (v : Standing S) (q : Bool) → takes_part w.buses t n ≡ q → (s : S) → session_of u w.buses t n ≡ Some (x.out, s) → All (λ e. AreBytes e.bytes) x.out.emitted
       from n v q p s e = of-standing n s n.standing (by-part n s e q p)
 
-  may-turn : (t : ℕ) (b : Bus) → Among w.buses b → (x : Turn S) → Among (turns u w.buses t w.nodes) x → MayTurn t x b
+  pub may-turn : (t : ℕ) (b : Bus) → Among w.buses b → (x : Turn S) → Among (turns u w.buses t w.nodes) x → MayTurn t x b
   may-turn t b a x i =
       let r = turn-among u w.buses t w.nodes x i in
       let here : IsAttached b r.0 = each-All (IsAttached b) w.nodes r.0 (each-All (λ b. All (IsAttached b) w.nodes) w.buses b h.attached a) r.1 in
