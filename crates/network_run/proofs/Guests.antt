@@ -1,0 +1,38 @@
+-- The units of a world are guests: its log is that of the ideal world.
+use Rattle.std.proofs.Common.{◌≡◌, ℕ, List, [], ◌∷◌, map, refl, sym, ap, ◌∙◌}
+use Rattle.wasm_types.specs.declared.module.Module.{Module}
+use Rattle.wasm_types.specs.Back.{nested_module}
+use Rattle.binding_specs.specs.Answers.{answer}
+use Rattle.world_specs.specs.Plan.{NodePlan, Plan, opening_of, units_of}
+use Rattle.world_specs.specs.Network.{run_lines, run_status}
+use Rattle.held_states.specs.Held.{IsHeldAs, world_as}
+use Rattle.held_states.proofs.Runs.{lines-held, status-held, opening-held}
+use Rattle.fmi_binding.specs.States.{guest_of, state_answer}
+use Rattle.guest_worlds.specs.Opening.{opening_states}
+use Rattle.ideal_specs.specs.Ideal.{guest_units, guests_from}
+
+guests-answer : IsHeldAs guest_of state_answer (λ s. s.phase) answer (λ g. g.phase)
+unfolding state_answer answer
+guests-answer = record { answers = λ s c. refl; phases = λ s. refl }
+
+same-guests : (fuel : ℕ) (ms : List Module) (ns : List NodePlan) → map guest_of (opening_states fuel ms ns) ≡ guests_from fuel (map nested_module ms) ns
+same-guests fuel [] ns = refl
+same-guests fuel (m ∷ ms) [] = refl
+same-guests fuel (m ∷ ms) (n ∷ ns) = rw (same-guests fuel ms ns) refl
+
+same-world : (p : Plan) (ms : List Module) → world_as guest_of (opening_of p (opening_states p.fuel ms p.nodes)) ≡ opening_of p (guests_from p.fuel (map nested_module ms) p.nodes)
+same-world p ms = sym (opening-held guest_of p (opening_states p.fuel ms p.nodes)) ∙ ap (opening_of p) (same-guests p.fuel ms p.nodes)
+
+pub ideal-lines : (p : Plan) (ms : List Module) (stop budget : ℕ)
+    → run_lines (units_of state_answer (λ s. s.phase) p) stop budget (opening_of p (opening_states p.fuel ms p.nodes))
+    ≡ run_lines (guest_units p) stop budget (opening_of p (guests_from p.fuel (map nested_module ms) p.nodes))
+ideal-lines p ms stop budget =
+    sym (lines-held guest_of state_answer (λ s. s.phase) answer (λ g. g.phase) guests-answer p stop budget (opening_of p (opening_states p.fuel ms p.nodes)))
+    ∙ ap (run_lines (guest_units p) stop budget) (same-world p ms)
+
+pub ideal-status : (p : Plan) (ms : List Module) (stop budget : ℕ)
+    → run_status (units_of state_answer (λ s. s.phase) p) stop budget (opening_of p (opening_states p.fuel ms p.nodes))
+    ≡ run_status (guest_units p) stop budget (opening_of p (guests_from p.fuel (map nested_module ms) p.nodes))
+ideal-status p ms stop budget =
+    sym (status-held guest_of state_answer (λ s. s.phase) answer (λ g. g.phase) guests-answer p stop budget (opening_of p (opening_states p.fuel ms p.nodes)))
+    ∙ ap (run_status (guest_units p) stop budget) (same-world p ms)
