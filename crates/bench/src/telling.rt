@@ -11,7 +11,7 @@ ghost use Rattle.bench.specs.Statuses.{WritesNothing};
 ghost use Rattle.bench.specs.Words.{Wasm};
 ghost use Rattle.bench.specs.Deed.{Deed, CarriedOut, Caused, IsFault};
 ghost use Rattle.bench.specs.Deeds.{Does};
-ghost use Rattle.bench.specs.Telling.{error_status, why_of, read_status, read_lines};
+ghost use Rattle.bench.specs.Telling.{error_status, why_of, report_status, read_status, read_lines};
 
 use crate::fetching::{FetchError, fetch};
 use crate::refusals::{refused, refused_at};
@@ -23,7 +23,7 @@ use wasm_reader::ReadError;
 use wasm_validate::{Invalid, Rule};
 
 /// The greatest length of a module's file, in bytes.
-const LIMIT: u64 = 4_194_304;
+pub(crate) const LIMIT: u64 = 4_194_304;
 
 /// The limit is that of the format: 2^22 bytes.
 pub fn limit_of_modules_is_that_of_the_format()
@@ -73,15 +73,27 @@ fn tell_bytes<O: Sink>(alloc: Global, bytes: &[u8], out: &mut O) -> Status
 {
     let line = match module_report(alloc, bytes) {
         Ok(line) => line,
-        Err(ReportError::Read(error)) => return status_of(error),
-        Err(ReportError::Invalid(Invalid::Memory)) => return Status::Memory,
-        Err(ReportError::Invalid(Invalid::Rule { rule, place, at })) => {
-            return refused_at(why_of(rule), place, at);
-        }
+        Err(error) => return unaccepted(error),
     };
     match out.write(&line) {
         Ok(()) => Status::Done,
         Err(_) => Status::Unwritten,
+    }
+}
+
+/// The status of a file that isn't accepted as a module.
+pub(crate) fn unaccepted(error: ReportError) -> Status
+    ensures status { result ≡ report_status error }
+    ensures form { result ≢ Status.Usage }
+    ensures read { (file : FileId) → result ≢ Status.Unread file }
+    ensures written { result ≢ Status.Unwritten }
+{
+    match error {
+        ReportError::Read(error) => status_of(error),
+        ReportError::Invalid(Invalid::Memory) => Status::Memory,
+        ReportError::Invalid(Invalid::Rule { rule, place, at }) => {
+            refused_at(why_of(rule), place, at)
+        }
     }
 }
 
