@@ -1,0 +1,4 @@
+#[test]
+fn nothing_yet(rt: HostRuntime) {
+    assert!(rt; true);
+}
