@@ -5,5 +5,6 @@ pub mod Deed
 pub mod Playing
 pub mod Telling
 pub mod Calling
+pub mod Running
 pub mod Deeds
 pub mod Report

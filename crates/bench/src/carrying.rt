@@ -9,6 +9,7 @@ ghost use Rattle.bench.specs.Deeds.{Does};
 
 use crate::calling::call_function;
 use crate::playing::play;
+use crate::running::run_folder;
 use crate::status::Status;
 use crate::telling::tell_module;
 use crate::words::Command;
@@ -38,5 +39,6 @@ pub(crate) fn carry_out<H: Shelf, O: Sink>(
         Command::Play(file) => play(alloc, file, shelf, out),
         Command::Wasm(file) => tell_module(alloc, file, shelf, out),
         Command::Call(words) => call_function(alloc, &words, shelf, out),
+        Command::Run(net) => run_folder(alloc, net, shelf, out),
     }
 }

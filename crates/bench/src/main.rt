@@ -1,5 +1,6 @@
 //! The bench: `play FILE` runs the play of a file on one simulated CAN bus and writes its log, `wasm FILE` writes what
-//! the WebAssembly module of a file holds, and `call FILE NAME FUEL ARGS` how a call of one of its functions ends.
+//! the WebAssembly module of a file holds, `call FILE NAME FUEL ARGS` how a call of one of its functions ends, and
+//! `run NET` runs the network of a folder and writes its log.
 #![tactic(auto)]
 
 ghost use Rattle.std.specs.Prelude.{◌≡◌, ◌↔◌, [], IfOk, IsErr};
@@ -11,6 +12,7 @@ mod fetching;
 mod playing;
 mod refusals;
 mod reporting;
+mod running;
 mod status;
 mod telling;
 #[cfg(test)]

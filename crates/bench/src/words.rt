@@ -2,7 +2,7 @@
 ghost use Rattle.std.specs.Prelude.{◌≡◌, ◌^◌, ◌-◌, map, option_map, string_bytes, is_some, IfOk, IsErr, Some};
 ghost use Rattle.plain_text.specs.Decimal.{number_in};
 ghost use Rattle.call_specs.specs.CallWords.{CallWords as call_record, call_words, arguments_of_words, most_fuel};
-ghost use Rattle.bench.specs.Words.{command_of as command_in, meant, meant_call, of_one, of_call, Play, Wasm, Call};
+ghost use Rattle.bench.specs.Words.{command_of as command_in, meant, meant_call, of_one, of_call, Play, Wasm, Call, Run};
 
 use plain_text::number_in;
 use std::alloc::{AllocError, Global};
@@ -19,6 +19,8 @@ pub(crate) enum Command<'a> {
     Wasm(&'a str),
     /// Writes how a call of a function of a file's module ends.
     Call(CallWords<'a>),
+    /// Writes the log of the network of a folder.
+    Run(&'a str),
 }
 
 /// The words behind `call`.
@@ -54,6 +56,9 @@ pub(crate) fn command_of(
     if first.as_str() == "call" {
         return of_call(alloc, words);
     }
+    if first.as_str() == "run" {
+        return Ok(of_run(words));
+    }
     Ok(None)
 }
 
@@ -75,6 +80,16 @@ fn of_wasm(words: &[String]) -> Option<Command<'_>>
         return None;
     };
     Some(Command::Wasm(file.as_str()))
+}
+
+/// The words behind `run`.
+fn of_run(words: &[String]) -> Option<Command<'_>>
+    ensures { option_map meant result ≡ of_one Run (map string_bytes words.now) }
+{
+    let [net] = words else {
+        return None;
+    };
+    Some(Command::Run(net.as_str()))
 }
 
 /// The words behind `call`.

@@ -1,0 +1,73 @@
+//! The command `run`.
+ghost use Rattle.std.specs.Prelude.{◌≡◌, ◌≢◌, ◌⊎◌, ℕ, List, Some, map};
+ghost use Rattle.log_specs.specs.Line.{line_text};
+ghost use Rattle.network_specs.specs.Networks.{network_file_name};
+ghost use Rattle.network_folder.specs.Outcomes.{IsSound};
+ghost use Rattle.ideal_specs.specs.Ideal.{ideal_lines, ideal_status};
+ghost use Rattle.bench_outside.specs.Shelf.{Contents};
+ghost use Rattle.bench_outside.specs.Causes.{Rose};
+ghost use Rattle.bench_outside.specs.Pieces.{WritesAll, BreaksOff, StopsBefore};
+ghost use Rattle.bench_outside.specs.declared.refusal.FileId.{FileId};
+ghost use Rattle.bench_outside.specs.declared.refusal.Refusal.{Refusal};
+ghost use Rattle.bench.specs.Statuses.{WritesNothing};
+ghost use Rattle.bench.specs.Words.{Run};
+ghost use Rattle.bench.specs.Deed.{Deed, CarriedOut, Caused, IsFault};
+ghost use Rattle.bench.specs.Deeds.{Does};
+ghost use Rattle.bench.specs.Playing.{ended};
+
+use crate::status::Status;
+use bench_outside::{Shelf, Sink};
+use log_writing::{Ending, RunError};
+use network_folder::{NetError, Network, read_network};
+use network_run::run_network;
+use std::alloc::Global;
+
+/// Writes the log of the network of a folder.
+pub(crate) fn run_folder<H: Shelf, O: Sink>(
+    alloc: Global,
+    net: &str,
+    shelf: &mut H,
+    out: &mut O,
+) -> Status
+    ensures carried { (held : Contents) → H.holds shelf.old ≡ Some held
+        → (deed : Deed) × Does (Run net.now) held deed
+        × CarriedOut O.Sink deed out.old out.new (H.read_faults shelf.new).last result }
+    ensures spared { (held : Contents) (deed : Deed) (r : Refusal) → H.holds shelf.old ≡ Some held
+        → Does (Run net.now) held deed → deed.status ≡ Status.Refused r → out.new ≡ out.old }
+    ensures named { result ≡ Status.Unread FileId.Main
+        → (H.read_faults shelf.new).last ≡ network_file_name net.now }
+    ensures caused { Caused H.Shelf O.Sink shelf.old shelf.new out.old out.new result }
+    ensures form { result ≢ Status.Usage }
+{
+    match read_network(alloc, shelf, net) {
+        Ok(network) => run_read(alloc, network, out),
+        Err(NetError::Refused(refusal)) => Status::Refused(refusal),
+        Err(NetError::Unread(file)) => Status::Unread(file),
+        Err(NetError::Memory) => Status::Memory,
+    }
+}
+
+/// Runs a network that was read, and writes its log.
+fn run_read<O: Sink>(alloc: Global, network: Network, out: &mut O) -> Status
+    requires sound { IsSound network }
+
+    // Which answer comes.
+    ensures answer { IsFault result ⊎ (result ≡ ended (ideal_status network)) }
+    ensures form { result ≢ Status.Usage }
+    ensures read { (file : FileId) → result ≢ Status.Unread file }
+
+    // What is written, and which fault is answered.
+    ensures whole { IsFault result ⊎ WritesAll O.Sink out.old out.new (map line_text (ideal_lines network)) }
+    ensures broken { result ≡ Status.Unwritten → BreaksOff O.Sink out.old out.new (map line_text (ideal_lines network)) }
+    ensures stopped { result ≡ Status.Memory → StopsBefore O.Sink out.old out.new (map line_text (ideal_lines network)) }
+    ensures untouched { WritesNothing result → out.new ≡ out.old }
+    ensures unwritten { result ≡ Status.Unwritten → Rose (O.faults out.old) (O.faults out.new) }
+    ensures kept { (result ≡ Status.Unwritten) ⊎ (O.faults out.new ≡ O.faults out.old) }
+{
+    match run_network(alloc, network, out) {
+        Ok(Ending::Done) => Status::Done,
+        Ok(Ending::Spent) => Status::Spent,
+        Err(RunError::Unwritten) => Status::Unwritten,
+        Err(RunError::Memory) => Status::Memory,
+    }
+}
