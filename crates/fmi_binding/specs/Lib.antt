@@ -2,3 +2,4 @@
 pub mod Faults
 pub mod States
 pub mod Coming
+pub mod Ecus
