@@ -3,3 +3,4 @@ pub mod Faults
 pub mod States
 pub mod Coming
 pub mod Ecus
+pub mod Laws

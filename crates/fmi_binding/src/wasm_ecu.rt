@@ -78,7 +78,7 @@ fn reply_of(came: Result<Reply, Broken>) -> Reply
 
 impl Ecu for WasmEcu {
     ghost use Rattle.fmi_binding.specs.States.{state_answer};
-    ghost use Rattle.fmi_binding.proofs.Units.{moves, suits, are_bytes, same_state, same_place, is_there};
+    ghost use Rattle.fmi_binding.specs.Laws.{moves, suits, are_bytes, same_state, same_place, is_there};
 
     type Shared = Guests;
 
