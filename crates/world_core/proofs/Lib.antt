@@ -31,3 +31,4 @@ pub mod CloseFits
 pub mod Shutting
 pub mod CloseWalk
 pub mod CloseSeen
+pub mod Stepping
