@@ -22,3 +22,4 @@ pub mod Cases
 pub mod InTurn
 pub mod Starting
 pub mod Silent
+pub mod Hearing

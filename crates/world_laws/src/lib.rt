@@ -26,7 +26,8 @@ pub use orders::{
 };
 pub use runs::{
     each_log_tells_the_number_of_its_events, each_start_is_of_the_foremost,
-    nothing_happens_after_the_stop, the_events_of_a_run_come_in_order, who_is_out_is_silent,
+    nothing_happens_after_the_stop, the_events_of_a_run_come_in_order,
+    what_is_delivered_is_heard_at_once, who_is_out_is_silent,
 };
 
 #[cfg(test)]

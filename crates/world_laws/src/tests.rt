@@ -8,8 +8,8 @@ use crate::{
     only_who_takes_part_changes, others_have_no_session, plans_open_networks_that_fit,
     sessions_join, sessions_leave_nothing_waiting, the_events_of_a_run_come_in_order,
     the_next_event_is_foremost, two_orders_give_the_same_nodes, units_of_a_plan_fit,
-    what_fits_goes_on_to_fit, who_is_not_live_holds_nothing, who_is_out_is_silent,
-    who_is_out_stays_out,
+    what_fits_goes_on_to_fit, what_is_delivered_is_heard_at_once, who_is_not_live_holds_nothing,
+    who_is_out_is_silent, who_is_out_stays_out,
 };
 use std::test::Fail;
 
@@ -41,5 +41,6 @@ fn the_laws_stand_at_numbers(_rt: HostRuntime) -> Result<(), Fail> {
     nothing_happens_after_the_stop::<u32>();
     the_events_of_a_run_come_in_order::<u32>();
     who_is_out_is_silent::<u32>();
+    what_is_delivered_is_heard_at_once::<u32>();
     Ok(())
 }
