@@ -71,7 +71,7 @@ def declining(dice, plan):
         while first < 300:
             error = random_error(dice, plan.members(place))
             bus.errors.append(Error(first, dice.choice([1, 10, 17, 33]), error.kind, error.by, error.bit))
-            first = bus.errors[-1].last + dice.choice([-4, 1, 1, 2, 6])
+            first = max(1, bus.errors[-1].last + dice.choice([-4, 1, 1, 2, 6]))
 
 
 def random_units(dice, plan):
