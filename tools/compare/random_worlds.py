@@ -2,9 +2,11 @@
 """Runs random worlds of several buses through a program and through world.py, and compares what they write.
 
     random_worlds.py COUNT SEED [PROGRAM ..]
+    random_worlds.py COUNT SEED --cases FOLDER
 
-PROGRAM and its words get the file of a world's text as their last word. Without a PROGRAM it shows what happens in
-these worlds: how many of them have which line.
+PROGRAM and its words get the file of a world's text as their last word. With --cases each text becomes a file of the
+folder, beside what is to be written of it, NAME.stdout. With neither it shows what happens in these worlds: how many
+of them have which line.
 """
 import collections
 import os
@@ -69,7 +71,7 @@ def declining(dice, plan):
         while first < 300:
             error = random_error(dice, plan.members(place))
             bus.errors.append(Error(first, dice.choice([1, 10, 17, 33]), error.kind, error.by, error.bit))
-            first = bus.errors[-1].last + dice.choice([-4, 1, 1, 2, 6])
+            first = max(1, bus.errors[-1].last + dice.choice([-4, 1, 1, 2, 6]))
 
 
 def random_units(dice, plan):
@@ -134,9 +136,20 @@ def compare(dice, count, seed, program):
     print(f"{count} worlds, no difference")
 
 
+def write_cases(dice, count, seed, folder):
+    os.makedirs(folder, exist_ok=True)
+    for place in range(count):
+        text = random_world(dice)
+        for name, content in [("", text), (".stdout", world.outcome(world_text.read(text)))]:
+            with open(os.path.join(folder, f"world_{seed}_{place:05}{name}"), "wb") as file:
+                file.write(content)
+
+
 def main(count="1000", seed="1", *program):
     dice = random.Random(int(seed))
-    if program:
+    if program[:1] == ("--cases",):
+        write_cases(dice, int(count), seed, program[1])
+    elif program:
         compare(dice, int(count), seed, program)
     else:
         show(dice, int(count))

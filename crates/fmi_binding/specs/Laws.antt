@@ -51,7 +51,7 @@ same_place e s t here shares = record {
 }
 
 some_is : {A : Type 0} (o : Option A) → IsSome o → o ≢ None
-some_is None is = λ none. absurd is
+some_is None is = λ none. cc is
 some_is (Some x) is = λ none. cc none
 
 pub is_there : (e : WasmEcu) (s : Guests) (p : ℕ) → IsIn e s → Among p (parts_of e) → part_at p s ≢ None

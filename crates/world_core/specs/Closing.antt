@@ -58,13 +58,13 @@ module _ {E G S : Type 0} (g : Ghosts E G S) where
   Shuts node n true None c after ss states = ⊥
 
 -- The first nodes were closed, and those that are left lead from here to the whole.
-pub record ClosedSoFar {S : Type 0} (u : Units S) (now k : ℕ) (old ns : List (Node S)) (units ss : List S) (lines : List Line) : Type 0 where
+pub record ClosedSoFar {S : Type 0} (u : Units S) (now k : ℕ) (old ns : List (Node S)) (units ss : List S) (ls : List Line) : Type 0 where
   pub nodes : take k ns ++ map (node_closed u) (drop k ns) ≡ map (node_closed u) old
   pub states : take k ss ++ units_closed u (drop k ns) (drop k ss) ≡ units_closed u old units
-  pub lines : lines ++ flat_map (λ n. lines_of_close now n.number (close_of u n)) (drop k ns) ≡ flat_map (λ n. lines_of_close now n.number (close_of u n)) old
+  pub lines : ls ++ flat_map (λ n. lines_of_close now n.number (close_of u n)) (drop k ns) ≡ flat_map (λ n. lines_of_close now n.number (close_of u n)) old
 
-pub record IsClosing {E G S : Type 0} (g : Ghosts E G S) (k : ℕ) (old c : Course) (before es : List E) (first shared : G) (lines : List Line) : Type 0 where
+pub record IsClosing {E G S : Type 0} (g : Ghosts E G S) (k : ℕ) (old c : Course) (before es : List E) (first shared : G) (ls : List Line) : Type 0 where
   pub held : IsHeld g c es shared
   pub stays : Stays old c
   pub so_far : ClosedSoFar (units_of g.answer g.phase_of old.plan) old.now k
-      (network_of old (states_of g before first)).nodes (network_of c (states_of g es shared)).nodes (states_of g before first) (states_of g es shared) lines
+      (network_of old (states_of g before first)).nodes (network_of c (states_of g es shared)).nodes (states_of g before first) (states_of g es shared) ls

@@ -6,7 +6,7 @@ ghost use Rattle.ecu_session.specs.Words.{end_of};
 ghost use Rattle.world_specs.specs.Network.{close_lines, node_closed};
 ghost use Rattle.world_specs.specs.Plan.{IsPlan, NodePlan as node_plan, units_of};
 ghost use Rattle.world_core.specs.Closing as model;
-ghost use Rattle.world_core.specs.Courses.{network_of, plan_of_bus};
+ghost use Rattle.world_core.specs.Courses.{network_of};
 ghost use Rattle.world_core.specs.Held.{IsHeld};
 ghost use Rattle.world_core.specs.Left.{units_closed};
 ghost use Rattle.world_core.specs.Units.{states_of};
@@ -79,7 +79,6 @@ impl Course {
     /// The nodes that are live leave every bus.
     pub(crate) fn leave_live(&mut self)
         requires few { length self.old.standings ≤ 32 }
-        requires made { self.old.plan.buses ≡ map plan_of_bus self.old.buses }
         ensures { self.new ≡ record self.old { buses = model.left_from 0 self.old.standings self.old.buses } }
     {
         leave_live(&mut self.buses, &self.standings);
@@ -129,10 +128,11 @@ impl Course {
         ensures lines { IfOk result (λ lines. lines ≡ close_lines (units_of E.answer E.phase_of self.old.plan) (network_of self.old (states_of E.Ecu ecus.old.items shared.old))) }
         ensures events { self.new.events ≡ self.old.events }
     {
+        let moment = self.now;
         let mut lines = Vec::new(alloc);
         for node in 0..self.nodes.len() as u32 {
             let end = self.close_node(alloc, ecus, shared, node)?;
-            push_failure(&mut lines, self.now, node, end)?;
+            push_failure(&mut lines, moment, node, end)?;
         }
         Ok(LineList::of(lines))
     }

@@ -19,3 +19,7 @@ pub mod Planned
 pub mod Ended
 pub mod Counted
 pub mod Cases
+pub mod InTurn
+pub mod Starting
+pub mod Silent
+pub mod Hearing

@@ -141,7 +141,7 @@ module _ (t : ℕ) where
       go b false = none-at
   outcome-at u w Sessions = turns-at (turns u w.buses t w.nodes) (fold with_entered w.buses (turns u w.buses t w.nodes), []) none-at
 
-  close-at : {S : Type 0} (u : Units S) (w : World S) → w.now ≡ t → Lines (close_lines u w)
+  pub close-at : {S : Type 0} (u : Units S) (w : World S) → w.now ≡ t → Lines (close_lines u w)
   close-at {S} u w e = each-at (λ n. lines_of_close w.now n.number (close_of u n)) w.nodes (λ n. go n (close_of u n))
     where
       fails : (n : Node S) (c : session.End) → Lines (failure_lines w.now n.number c)

@@ -5,6 +5,7 @@ mod events;
 mod fits;
 mod nodes;
 mod orders;
+mod runs;
 
 pub use events::{
     each_log_ends_with_its_status, moments_never_fall, no_line_is_earlier_than_the_one_before_it,
@@ -22,6 +23,11 @@ pub use nodes::{
 pub use orders::{
     any_order_gives_the_same_nodes, each_session_is_from_the_state_before,
     two_orders_give_the_same_nodes,
+};
+pub use runs::{
+    each_log_tells_the_number_of_its_events, each_start_is_of_the_foremost,
+    nothing_happens_after_the_stop, the_events_of_a_run_come_in_order,
+    what_is_delivered_is_heard_at_once, who_is_out_is_silent,
 };
 
 #[cfg(test)]

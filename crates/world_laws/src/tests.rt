@@ -1,12 +1,15 @@
 //! The laws stand at a concrete type.
 use crate::{
     a_moment_has_one_sessions, any_order_gives_the_same_nodes, each_event_comes_behind_the_last,
-    each_log_ends_with_its_status, each_session_is_from_the_state_before, moments_never_fall,
-    no_line_is_earlier_than_the_one_before_it, nothing_is_ever_late, numbers_stay_small,
-    only_live_nodes_are_closed, only_who_takes_part_changes, others_have_no_session,
-    plans_open_networks_that_fit, sessions_join, sessions_leave_nothing_waiting,
+    each_log_ends_with_its_status, each_log_tells_the_number_of_its_events,
+    each_session_is_from_the_state_before, each_start_is_of_the_foremost, moments_never_fall,
+    no_line_is_earlier_than_the_one_before_it, nothing_happens_after_the_stop,
+    nothing_is_ever_late, numbers_stay_small, only_live_nodes_are_closed,
+    only_who_takes_part_changes, others_have_no_session, plans_open_networks_that_fit,
+    sessions_join, sessions_leave_nothing_waiting, the_events_of_a_run_come_in_order,
     the_next_event_is_foremost, two_orders_give_the_same_nodes, units_of_a_plan_fit,
-    what_fits_goes_on_to_fit, who_is_not_live_holds_nothing, who_is_out_stays_out,
+    what_fits_goes_on_to_fit, what_is_delivered_is_heard_at_once, who_is_not_live_holds_nothing,
+    who_is_out_is_silent, who_is_out_stays_out,
 };
 use std::test::Fail;
 
@@ -33,5 +36,11 @@ fn the_laws_stand_at_numbers(_rt: HostRuntime) -> Result<(), Fail> {
     sessions_leave_nothing_waiting::<u32>();
     who_is_not_live_holds_nothing::<u32>();
     numbers_stay_small::<u32>();
+    each_log_tells_the_number_of_its_events::<u32>();
+    each_start_is_of_the_foremost::<u32>();
+    nothing_happens_after_the_stop::<u32>();
+    the_events_of_a_run_come_in_order::<u32>();
+    who_is_out_is_silent::<u32>();
+    what_is_delivered_is_heard_at_once::<u32>();
     Ok(())
 }

@@ -1,0 +1,125 @@
+//! A network of three nodes on two buses.
+ghost use Rattle.std.specs.Prelude.{◌≡◌, ◌≤◌, [], false, IfOk, length, map, option_map, Some, All};
+ghost use Rattle.world_core.specs.Setups.{bus_plan_of};
+ghost use Rattle.world_tests.specs.ThreeNodes as model;
+
+use bus_medium::BusSetup;
+use can_frame::{Name, Numbers};
+use error_script::ErrorList;
+use fmi_states::ListEcu;
+use fmu_description::{Description, Terminal};
+use std::alloc::{AllocError, Global};
+use tick_time::BitTime;
+use world_core::{NodePlan, Plan, World};
+
+fn no_name(alloc: Global) -> Result<Name, AllocError>
+    ensures { IfOk result (λ name. name ≡ []) }
+{
+    match Name::of(Vec::new(alloc)) {
+        Some(name) => Ok(name),
+        None => Err(AllocError),
+    }
+}
+
+// A terminal whose value references begin with this one.
+fn terminal(alloc: Global, first: u8) -> Result<Terminal, AllocError>
+    ensures { IfOk result (λ terminal. terminal ≡ model.terminal first) }
+{
+    let first = u32::from(first);
+    Ok(Terminal {
+        name: no_name(alloc)?,
+        rx_clock: first,
+        rx_data: first + 1,
+        tx_clock: first + 2,
+        tx_data: first + 3,
+        rx_max: 256,
+        tx_max: 256,
+    })
+}
+
+fn node(
+    alloc: Global,
+    clocks: Vec<u32>,
+    terminals: Vec<Terminal>,
+    buses: Vec<u32>,
+) -> Result<NodePlan, AllocError>
+    ensures description { IfOk result (λ node. node.description ≡ model.unit clocks.items terminals.items) }
+    ensures buses { IfOk result (λ node. node.buses ≡ buses.items) }
+{
+    let description = Description {
+        identifier: no_name(alloc)?,
+        countdown: Numbers::of(clocks),
+        terminals,
+    };
+    Ok(NodePlan {
+        description,
+        buses: Numbers::of(buses),
+    })
+}
+
+// A bus at 500 kbit/s and 2 Mbit/s, where a tick is a nanosecond.
+fn fast_bus(alloc: Global) -> Result<BusSetup, AllocError>
+    ensures { IfOk result (λ bus. bus_plan_of bus ≡ model.fast_bus) }
+{
+    Ok(BusSetup {
+        number: 0,
+        rate: 500_000,
+        fd_rate: Some(2_000_000),
+        nominal: BitTime::of_rate(500_000, 1_000_000_000).unwrap(),
+        fast: Some(BitTime::of_rate(2_000_000, 1_000_000_000).unwrap()),
+        members: Numbers::of(vec![in alloc; 0, 1]?),
+        errors: ErrorList::of(Vec::new(alloc)),
+    })
+}
+
+// A bus at 250 kbit/s.
+fn slow_bus(alloc: Global) -> Result<BusSetup, AllocError>
+    ensures { IfOk result (λ bus. bus_plan_of bus ≡ model.slow_bus) }
+{
+    Ok(BusSetup {
+        number: 1,
+        rate: 250_000,
+        fd_rate: None,
+        nominal: BitTime::of_rate(250_000, 1_000_000_000).unwrap(),
+        fast: None,
+        members: Numbers::of(vec![in alloc; 1, 2]?),
+        errors: ErrorList::of(Vec::new(alloc)),
+    })
+}
+
+// The network up to a stop, in ticks, with so many events at most.
+fn three_nodes(alloc: Global, stop: u64, events: u64) -> Result<Plan, AllocError>
+    ensures { IfOk result (λ plan. plan ≡ model.three_nodes stop events) }
+{
+    let near = vec![in alloc; terminal(alloc, 0)?]?;
+    let both = vec![in alloc; terminal(alloc, 0)?, terminal(alloc, 10)?]?;
+    let far = vec![in alloc; terminal(alloc, 0)?]?;
+    let first = node(alloc, vec![in alloc; 100]?, near, vec![in alloc; 0]?)?;
+    let second = node(alloc, Vec::new(alloc), both, vec![in alloc; 0, 1]?)?;
+    let third = node(alloc, Vec::new(alloc), far, vec![in alloc; 1]?)?;
+    Ok(Plan {
+        resolution: 1_000_000_000,
+        stop,
+        events,
+        fuel: 1,
+        buses: vec![in alloc; fast_bus(alloc)?, slow_bus(alloc)?]?,
+        nodes: vec![in alloc; first, second, third]?,
+    })
+}
+
+/// The network up to a stop, in ticks, with so many events at most, over these units.
+#[tactic(auto, using(crate::proofs::ThreeNodes::three_nodes_is))]
+pub(crate) fn opened(
+    alloc: Global,
+    stop: u32,
+    events: u8,
+    units: [ListEcu; 3],
+) -> Result<World<ListEcu>, AllocError>
+    requires some { 1 ≤ events }
+    ensures goes_on { IfOk result (λ world. world.failed ≡ false) }
+    ensures budget { IfOk result (λ world. world.plan.events ≡ events) }
+{
+    let plan = three_nodes(alloc, u64::from(stop), u64::from(events))?;
+    let [first, second, third] = units;
+    World::new(alloc, plan, vec![in alloc; first, second, third]?, ())
+}
