@@ -6,7 +6,9 @@ ghost use Rattle.world_core.specs.Units.{AreApart, states_of};
 ghost use Rattle.guest_worlds.specs.Opening.{IsDescribed, IsUnitCode, opening_states};
 
 use fmi_binding::{Guests, WasmEcu};
+use fmi_states::Ecu;
 use std::alloc::{AllocError, Global};
+use std::collections::VecDeque;
 use wasm_validate::Checked;
 use world_core::{NodePlan, Plan, World};
 
@@ -21,13 +23,14 @@ fn guests_of(
     requires units { All IsUnitCode codes.items }
     requires each { length codes.items ≡ length nodes.now }
     requires described { All IsDescribed nodes.now }
-    ensures states { IfOk result (λ ecus. states_of WasmEcu.Ecu ecus.items shared.new ≡ opening_states fuel codes.items nodes.now) }
-    ensures apart { IfOk result (λ ecus. AreApart WasmEcu.Ecu ecus.items shared.new) }
+    ensures states { IfOk result (λ ecus. states_of ⟦<WasmEcu as Ecu>⟧ ecus.items shared.new ≡ opening_states fuel codes.items nodes.now) }
+    ensures apart { IfOk result (λ ecus. AreApart ⟦<WasmEcu as Ecu>⟧ ecus.items shared.new) }
 {
+    let mut left = VecDeque::from(codes);
     let mut ecus = Vec::new(alloc);
-    for code in codes {
-        let description = &nodes[ecus.len()].description;
-        ecus.push(WasmEcu::new(alloc, shared, code, description, fuel)?)?;
+    while let Some(code) = left.pop_front() {
+        let node = &nodes[ecus.len()];
+        ecus.push(WasmEcu::new(alloc, shared, code, &node.description, fuel)?)?;
     }
     Ok(ecus)
 }
