@@ -36,10 +36,7 @@ pub(crate) struct CallWords<'a> {
 }
 
 /// The command that the words are; None where they are no form of a command, and then no memory is taken.
-pub(crate) fn command_of(
-    alloc: Global,
-    words: &[String],
-) -> Result<Option<Command<'_>>, AllocError>
+pub(crate) fn command_of(alloc: Global, words: &[String]) -> Result<Option<Command<'_>>, AllocError>
     ensures form { IfOk result (λ c. option_map meant c ≡ command_in (map string_bytes words.now)) }
     ensures memory { IfErr result (λ e. (w : call_record) × (command_in (map string_bytes words.now) ≡ Some (Call w))) }
 {

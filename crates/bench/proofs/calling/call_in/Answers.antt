@@ -14,10 +14,10 @@ returns-clause-broken g c unwritten =
     let words = meant_call c.args.words.now in
     let given : CallWords = record words { name = c.as_bytes-name.result.now; arguments = c.deref.result.now } in
     let as_meant : given ≡ words =
-        ap (λ (name : List ℕ). record words { name = name; arguments = c.deref.result.now }) c.as_bytes-name.ensures.value
-        ∙ ap (λ (arguments : List ℕ). record words { arguments = arguments }) c.deref.ensures.value in
+    ap (λ (name : List ℕ). record words { name = name; arguments = c.deref.result.now }) c.as_bytes-name.ensures.value
+    ∙ ap (λ (arguments : List ℕ). record words { arguments = arguments }) c.deref.ensures.value in
     let same : piece ∷ [] ≡ call_lines words (module_read c.args.bytes.now) =
-        ap (λ l. l ∷ []) c.deref-2.ensures.value ∙ one_call given c.in-Ok.line.items (module_read c.args.bytes.now) c.in-Ok.ensures.line
-        ∙ ap (λ (w : CallWords). call_lines w (module_read c.args.bytes.now)) as_meant in
+    ap (λ l. l ∷ []) c.deref-2.ensures.value ∙ one_call given c.in-Ok.line.items (module_read c.args.bytes.now) c.in-Ok.ensures.line
+    ∙ ap (λ (w : CallWords). call_lines w (module_read c.args.bytes.now)) as_meant in
     subst (λ lines. BreaksOff g.O.Sink c.args.out.now c.write.new.self lines) same
     (breaks_one g.O.Sink c.args.out.now c.write.new.self piece c.in-Err.ensures.part c.write.ensures.made)
