@@ -4,5 +4,6 @@ pub mod Refusals
 pub mod Deed
 pub mod Playing
 pub mod Telling
+pub mod Calling
 pub mod Deeds
 pub mod Report

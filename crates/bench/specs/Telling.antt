@@ -5,7 +5,7 @@ use Rattle.module_specs.specs.declared.fault.Fault.{Fault}
 use Rattle.module_specs.specs.ModuleReading.{module_read}
 use Rattle.code_specs.specs.declared.rule.Rule.{Rule}
 use Rattle.code_specs.specs.declared.rule.Rule.TheVariants as rule
-use Rattle.code_specs.specs.Validity.{Verdict, validity}
+use Rattle.code_specs.specs.Validity.{Invalid, Verdict, validity}
 use Rattle.wasm_reader.specs.declared.error.ReadError.{ReadError}
 use Rattle.wasm_reader.specs.declared.error.ReadError.TheVariants as error
 use Rattle.wasm_reader.specs.Outcome.{error_of}
@@ -55,10 +55,14 @@ why_of rule.Align = why.Align
 why_of rule.Operand = why.Operand
 why_of rule.Slots = why.Slots
 
--- the status of a module, and what is written of it: its line, where it is valid, else the first rule that fails
+-- the status of a module that isn't valid: the first rule that fails
+abbrev pub invalid_status : Invalid → Status
+invalid_status invalid = Refused (main_refusal_at (why_of invalid.rule) invalid.place invalid.at)
+
+-- the status of a module, and what is written of it: its line, where it is valid
 abbrev pub valid_status : Verdict → Status
 valid_status (Ok u) = Done
-valid_status (Err invalid) = Refused (main_refusal_at (why_of invalid.rule) invalid.place invalid.at)
+valid_status (Err invalid) = invalid_status invalid
 
 abbrev pub valid_lines : NestedModule → Verdict → List (List ℕ)
 valid_lines m (Ok u) = module_line m ∷ []

@@ -7,6 +7,7 @@ ghost use Rattle.bench.specs.Words.{meant, name_in_words};
 ghost use Rattle.bench.specs.Deed.{Deed, CarriedOut, Caused};
 ghost use Rattle.bench.specs.Deeds.{Does};
 
+use crate::calling::call_function;
 use crate::playing::play;
 use crate::status::Status;
 use crate::telling::tell_module;
@@ -36,5 +37,6 @@ pub(crate) fn carry_out<H: Shelf, O: Sink>(
     match command {
         Command::Play(file) => play(alloc, file, shelf, out),
         Command::Wasm(file) => tell_module(alloc, file, shelf, out),
+        Command::Call(words) => call_function(alloc, &words, shelf, out),
     }
 }

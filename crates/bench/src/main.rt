@@ -1,10 +1,11 @@
-//! The bench: `play FILE` runs the play of a file on one simulated CAN bus and writes its log, and `wasm FILE`
-//! writes what the WebAssembly module of a file holds.
+//! The bench: `play FILE` runs the play of a file on one simulated CAN bus and writes its log, `wasm FILE` writes what
+//! the WebAssembly module of a file holds, and `call FILE NAME FUEL ARGS` how a call of one of its functions ends.
 #![tactic(auto)]
 
 ghost use Rattle.std.specs.Prelude.{◌≡◌, ◌↔◌, [], IfOk, IsErr};
 ghost use Rattle.std.specs.IoError.{error_kind};
 
+mod calling;
 mod carrying;
 mod fetching;
 mod playing;

@@ -23,7 +23,7 @@ use wasm_reader::ReadError;
 use wasm_validate::{Invalid, Rule};
 
 /// The greatest length of a module's file, in bytes.
-const LIMIT: u64 = 4_194_304;
+pub(crate) const LIMIT: u64 = 4_194_304;
 
 /// The limit is that of the format: 2^22 bytes.
 pub fn limit_of_modules_is_that_of_the_format()
@@ -86,7 +86,7 @@ fn tell_bytes<O: Sink>(alloc: Global, bytes: &[u8], out: &mut O) -> Status
 }
 
 /// The status of a file that isn't read.
-fn status_of(error: ReadError) -> Status
+pub(crate) fn status_of(error: ReadError) -> Status
     ensures status { result ≡ error_status error }
     ensures form { result ≢ Status.Usage }
     ensures read { (file : FileId) → result ≢ Status.Unread file }
@@ -113,7 +113,7 @@ fn status_of(error: ReadError) -> Status
 }
 
 /// The name of a rule of validity.
-fn why_of(rule: Rule) -> Why
+pub(crate) fn why_of(rule: Rule) -> Why
     ensures { result ≡ why_of rule }
 {
     match rule {

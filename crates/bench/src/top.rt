@@ -52,9 +52,10 @@ pub fn execute<H: Shelf, O: Sink>(
     // Without a command the shelf isn't even read.
     ensures idle { result ≡ Status.Usage → shelf.new ≡ shelf.old }
 {
-    match command_of(words) {
-        Some(command) => carry_out(alloc, command, shelf, out),
-        None => Status::Usage,
+    match command_of(alloc, words) {
+        Ok(Some(command)) => carry_out(alloc, command, shelf, out),
+        Ok(None) => Status::Usage,
+        Err(_) => Status::Memory,
     }
 }
 

@@ -4,7 +4,7 @@
 mod line;
 mod report;
 
-pub use report::{ReportError, module_report};
+pub use report::{ReportError, module_report, read_checked};
 
 #[cfg(test)]
 mod tests;

@@ -23,8 +23,8 @@ pub enum ReportError {
     Invalid(Invalid),
 }
 
-/// The valid module that the bytes spell.
-fn read_checked(alloc: Global, bytes: &[u8]) -> Result<Checked, ReportError>
+/// The valid module that the bytes spell; else their first fault, or the first rule that fails, as `module_report` has it.
+pub fn read_checked(alloc: Global, bytes: &[u8]) -> Result<Checked, ReportError>
     ensures found { IfOk result (λ checked.
         (m : NestedModule) × (checked ≡ flat_module m) × SpellsModule m bytes.now × IsValid m) }
     ensures fault { (error : ReadError) → result ≡ Err (ReportError.Read error)

@@ -1,0 +1,101 @@
+//! The command `call`.
+ghost use Rattle.std.specs.Prelude.{◌≡◌, ◌≢◌, ◌⊎◌, ℕ, List, Some};
+ghost use Rattle.module_specs.specs.ModuleReading.{module_read};
+ghost use Rattle.bench_outside.specs.Shelf.{Contents};
+ghost use Rattle.bench_outside.specs.Causes.{Rose};
+ghost use Rattle.bench_outside.specs.Pieces.{WritesAll, BreaksOff};
+ghost use Rattle.bench_outside.specs.declared.refusal.FileId.{FileId};
+ghost use Rattle.bench_outside.specs.declared.refusal.Refusal.{Refusal};
+ghost use Rattle.bench.specs.Statuses.{WritesNothing};
+ghost use Rattle.bench.specs.Words.{Call, meant_call};
+ghost use Rattle.bench.specs.Deed.{Deed, CarriedOut, Caused, IsFault};
+ghost use Rattle.bench.specs.Deeds.{Does};
+ghost use Rattle.bench.specs.Calling.{fault_refusal, call_status, call_lines};
+
+use crate::fetching::{FetchError, fetch};
+use crate::refusals::{refused, refused_at};
+use crate::status::Status;
+use crate::telling::{LIMIT, status_of, why_of};
+use crate::words::CallWords;
+use bench_outside::{FileId, Shelf, Sink, Why};
+use call_run::{CallError, call_report};
+use call_specs::CallFault;
+use code_specs::Misfit;
+use module_report::ReportError;
+use std::alloc::Global;
+use wasm_validate::Invalid;
+
+/// Writes the line on a call of a function of a file's module.
+pub(crate) fn call_function<H: Shelf, O: Sink>(
+    alloc: Global,
+    words: &CallWords<'_>,
+    shelf: &mut H,
+    out: &mut O,
+) -> Status
+    ensures carried { (held : Contents) → H.holds shelf.old ≡ Some held
+        → (deed : Deed) × Does (Call (meant_call words.now)) held deed
+        × CarriedOut O.Sink deed out.old out.new (H.read_faults shelf.new).last result }
+    ensures spared { (held : Contents) (deed : Deed) (r : Refusal) → H.holds shelf.old ≡ Some held
+        → Does (Call (meant_call words.now)) held deed → deed.status ≡ Status.Refused r → out.new ≡ out.old }
+    ensures named { (id : FileId) → result ≡ Status.Unread id
+        → (H.read_faults shelf.new).last ≡ words.now.file.now }
+    ensures caused { Caused H.Shelf O.Sink shelf.old shelf.new out.old out.new result }
+    ensures form { result ≢ Status.Usage }
+{
+    match fetch(alloc, shelf, words.file, LIMIT) {
+        Ok(bytes) => call_in(alloc, words, &bytes, out),
+        Err(FetchError::Unread) => Status::Unread(FileId::Main),
+        Err(FetchError::Size) => refused(Why::Size, LIMIT),
+        Err(FetchError::Memory) => Status::Memory,
+    }
+}
+
+/// Writes the line on a call of a function of the module that these bytes spell.
+fn call_in<O: Sink>(alloc: Global, words: &CallWords<'_>, bytes: &[u8], out: &mut O) -> Status
+    // Which answer comes.
+    ensures answer { IsFault result ⊎ (result ≡ call_status (meant_call words.now) (module_read bytes.now)) }
+    ensures form { result ≢ Status.Usage }
+    ensures read { (file : FileId) → result ≢ Status.Unread file }
+
+    // What is written, and which fault is answered.
+    ensures whole { IsFault result
+        ⊎ WritesAll O.Sink out.old out.new (call_lines (meant_call words.now) (module_read bytes.now)) }
+    ensures broken { result ≡ Status.Unwritten
+        → BreaksOff O.Sink out.old out.new (call_lines (meant_call words.now) (module_read bytes.now)) }
+    ensures stopped { result ≡ Status.Memory → out.new ≡ out.old }
+    ensures untouched { WritesNothing result → out.new ≡ out.old }
+    ensures spared { (r : Refusal) → call_status (meant_call words.now) (module_read bytes.now) ≡ Status.Refused r
+        → out.new ≡ out.old }
+    ensures unwritten { result ≡ Status.Unwritten → Rose (O.faults out.old) (O.faults out.new) }
+    ensures kept { (result ≡ Status.Unwritten) ⊎ (O.faults out.new ≡ O.faults out.old) }
+{
+    let name = words.name.as_bytes();
+    let line = match call_report(alloc, bytes, name, words.fuel, &words.arguments) {
+        Ok(line) => line,
+        Err(CallError::Module(ReportError::Read(error))) => return status_of(error),
+        Err(CallError::Module(ReportError::Invalid(Invalid::Memory))) => return Status::Memory,
+        Err(CallError::Module(ReportError::Invalid(Invalid::Rule { rule, place, at }))) => {
+            return refused_at(why_of(rule), place, at);
+        }
+        Err(CallError::Call(fault)) => return uncalled(fault),
+        Err(CallError::Memory) => return Status::Memory,
+    };
+    match out.write(&line) {
+        Ok(()) => Status::Done,
+        Err(_) => Status::Unwritten,
+    }
+}
+
+/// The status where no function of a valid module is called.
+fn uncalled(fault: CallFault) -> Status
+    ensures { result ≡ Status.Refused (fault_refusal fault) }
+{
+    match fault {
+        CallFault::Segment(Misfit::Element(place)) => {
+            refused_at(Why::Segment, u64::from(place), 0)
+        }
+        CallFault::Segment(Misfit::Data(place)) => refused_at(Why::Segment, u64::from(place), 1),
+        CallFault::Export => refused(Why::Export, 0),
+        CallFault::Args(place) => refused(Why::Args, place),
+    }
+}
