@@ -18,8 +18,9 @@ use crate::fetching::{FetchError, fetch};
 use crate::refusals::refused;
 use crate::status::Status;
 use bench_outside::{FileId, Shelf, Sink, Why};
+use log_writing::{Ending, RunError};
 use play_file::{PlayError, read_play};
-use play_run::{Ending, RunError, run};
+use play_run::run;
 use std::alloc::Global;
 
 /// The greatest length of a file, in bytes.

@@ -1,4 +1,3 @@
-pub mod Endings
 pub mod Moments
 pub mod Prefixes
 pub mod Ready

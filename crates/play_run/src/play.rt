@@ -7,16 +7,17 @@ ghost use Rattle.bus_ops.specs.Views.{item_of};
 ghost use Rattle.play_file.specs.Verbs.{verb_of};
 ghost use Rattle.bench_outside.specs.Causes.{Rose};
 ghost use Rattle.bench_outside.specs.Pieces.{WritesAll, BreaksOff, StopsBefore};
-ghost use Rattle.play_run.specs.Endings.{code_of};
+ghost use Rattle.log_writing.specs.Endings.{code_of};
 ghost use Rattle.play_run.specs.Scripts.{scenario_of, IsRunnable};
 
 use crate::playing::run_script;
 use crate::script::Script;
-use crate::{Emission, Ending, RunError};
+use crate::Emission;
 use bench_outside::Sink;
 use bus_medium::BusSetup;
 use bus_ops::{Item, Op, Parameter};
 use can_frame::{Frame, Kind, Numbers};
+use log_writing::{Ending, RunError};
 use play_file::{Action, Play, Verb};
 use std::alloc::{AllocError, Global};
 

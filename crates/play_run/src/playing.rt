@@ -5,51 +5,22 @@ ghost use Rattle.bus_specs.specs.Bus.{member_is, new_bus};
 ghost use Rattle.bus_specs.specs.Inbox.{enter};
 ghost use Rattle.bus_medium.specs.Setups.{setup_of, IsWellFormed};
 ghost use Rattle.log_specs.specs.Line.{line_text};
-ghost use Rattle.log_specs.specs.Line as log;
 ghost use Rattle.run_specs.specs.Run.{log as log_of};
 ghost use Rattle.play_specs.specs.Scenario.{machine, scenario_lines, scenario_status};
 ghost use Rattle.play_run.specs.Scripts.{scenario_of, IsRunnable};
 ghost use Rattle.play_run.specs.Statuses.{status_from};
 ghost use Rattle.bench_outside.specs.Causes.{Rose};
 ghost use Rattle.bench_outside.specs.Pieces.{WritesAll, BreaksOff, StopsBefore};
-ghost use Rattle.play_run.specs.Endings.{code_of};
+ghost use Rattle.log_writing.specs.Endings.{code_of};
 ghost use Rattle.play_run.specs.Ready.{IsReady};
 ghost use Rattle.play_run.specs.Worlds.{world_of};
 
 use crate::runner::Runner;
 use crate::script::Script;
-use crate::writing::{write_line, write_lines};
-use crate::{Ending, RunError};
 use bench_outside::Sink;
-use bus_log::Line;
 use bus_medium::{BusSetup, Medium};
+use log_writing::{Ending, RunError, write_end, write_lines};
 use std::alloc::{AllocError, Global};
-
-/// Writes the last line of the log.
-fn write_end<O: Sink>(
-    alloc: Global,
-    ending: Ending,
-    events: u64,
-    out: &mut O,
-) -> Result<Ending, RunError>
-    ensures log { OnOk result
-        (WritesAll O.Sink out.old out.new (line_text (log.End (code_of ending) events) ∷ [])) }
-    ensures ending { IfOk result (λ e. e ≡ ending) }
-    ensures part { IsErrOf result RunError.Unwritten
-        → BreaksOff O.Sink out.old out.new (line_text (log.End (code_of ending) events) ∷ []) }
-    ensures stopped { IsErrOf result RunError.Memory → out.new ≡ out.old }
-    ensures unwritten { IsErrOf result RunError.Unwritten → Rose (O.faults out.old) (O.faults out.new) }
-    ensures memory { IsErrOf result RunError.Memory → O.faults out.new ≡ O.faults out.old }
-    ensures kept { OnOk result (O.faults out.new ≡ O.faults out.old) }
-    ensures later { O.faults out.old ≤ O.faults out.new }
-{
-    let line = Line::End {
-        status: ending.code(),
-        events,
-    };
-    write_line(alloc, &line, out)?;
-    Ok(ending)
-}
 
 /// Runs from here with at most this many events, and writes the log.
 fn run_on<O: Sink>(

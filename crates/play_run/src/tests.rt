@@ -1,6 +1,7 @@
 //! What no clause says: that a play runs to its end, and how its log reads.
-use crate::{Ending, RunError, run};
+use crate::run;
 use bench_outside::MemSink;
+use log_writing::{Ending, RunError};
 use play_file::{Play, read_play};
 use std::alloc::Global;
 use std::process::Abort;

@@ -2,15 +2,15 @@ use Rattle.std.proofs.Common.{◌≡◌, ◌≤◌, ◌<◌, ◌+◌, ◌^◌, �
 use Rattle.log_specs.specs.Line.{line_text, End}
 use Rattle.play_specs.specs.Scenario.{World, next_event, world_behind}
 use Rattle.play_run.specs.Statuses.{status_from}
-use Rattle.play_run.proofs.Steps.{run_from, status-next}
+use Rattle.play_run.proofs.Logs.{run_from, status-next}
 use Rattle.bus_log.specs.Lines.{line_of}
 use Rattle.bench_outside.specs.Pieces.{WritesAll, BreaksOff, StopsBefore}
-use Rattle.play_run.specs.Endings.{code_of}
+use Rattle.log_writing.specs.Endings.{code_of}
 use Rattle.bus_medium.specs.Dues.{due_of}
 use Rattle.play_run.specs.Worlds.{world_of}
 use Rattle.play_run.proofs.Lasting.{behind-ready}
 use Rattle.play_run.proofs.Logs.{next-within, spent-lines, spent-status, done-lines, done-status, next-lines}
-use Rattle.play_run.proofs.Writes.{texts-of, wrote-behind, broke-behind, stopped-behind, stopped-at, on_ok, if_ok}
+use Rattle.log_writing.proofs.Writes.{texts-of, wrote-behind, broke-behind, stopped-behind, stopped-at, on_ok, if_ok}
 use Rattle.play_run.proofs.playing.run_on.Goals as goal
 
 pub step-requires-clause-moment : goal.step-requires-clause-moment

@@ -1,7 +1,7 @@
 use Rattle.std.proofs.Common.{◌≡◌, ◌<◌, ◌+◌, ◌^◌, ◌++◌, List, map}
 use Rattle.log_specs.specs.Line.{Line, line_text}
 use Rattle.play_run.specs.Statuses.{status_from}
-use Rattle.play_run.proofs.Steps.{run_from}
+use Rattle.play_run.proofs.Logs.{run_from}
 use Rattle.bench_outside.specs.Pieces.{WritesAll}
 use Rattle.play_run.specs.Ready.{IsReady}
 use Rattle.play_run.specs.Worlds.{world_of}

@@ -2,9 +2,9 @@ use Rattle.std.proofs.Common.{◌≡◌, take, drop, ◌+◌, [], ◌∷◌, rul
 use Rattle.log_specs.specs.Line.{line_text}
 use Rattle.bus_log.specs.Lines.{line_of}
 use Rattle.bench_outside.specs.Pieces.{BreaksOff}
-use Rattle.play_run.proofs.Writes.{take-line, split-lines, wrote-behind, broke-behind, stopped-at}
+use Rattle.log_writing.proofs.Writes.{take-line, split-lines, wrote-behind, broke-behind, stopped-at}
 use Rattle.std.proofs.lemmas.List.{take-append-drop}
-use Rattle.play_run.proofs.writing.write_lines.Goals as goal
+use Rattle.log_writing.proofs.writing.write_lines.Goals as goal
 
 pub returns-in_err-write_line-clause-part : goal.returns-in_err-write_line-clause-part
 returns-in_err-write_line-clause-part g c =

@@ -3,7 +3,7 @@ use Rattle.log_specs.specs.Line.{line_text}
 use Rattle.bus_log.specs.Lines.{line_of}
 use Rattle.bench_outside.specs.Sink.{AppendedPart}
 use Rattle.bench_outside.specs.PieceSteps.{breaks_one}
-use Rattle.play_run.proofs.writing.write_line.Goals as goal
+use Rattle.log_writing.proofs.writing.write_line.Goals as goal
 
 pub returns-in_err-write-clause-part : goal.returns-in_err-write-clause-part
 returns-in_err-write-clause-part g c =

@@ -1,11 +1,11 @@
 //! How a run ends.
 ghost use Rattle.std.specs.Prelude.{◌≡◌};
-ghost use Rattle.play_run.specs.Endings.{code_of};
+ghost use Rattle.log_writing.specs.Endings.{code_of};
 
 use bench_outside::Failed;
 use std::alloc::AllocError;
 
-/// How a play ended.
+/// How a run ended.
 #[derive(Clone, Copy, Debug, PartialEq, Eq)]
 pub enum Ending {
     /// No event was left up to the stop.
@@ -16,7 +16,7 @@ pub enum Ending {
 
 impl Ending {
     /// The status that the last line of the log states.
-    pub(crate) fn code(self) -> u8
+    pub fn code(self) -> u8
         ensures { result ≡ code_of self }
     {
         match self {
@@ -26,7 +26,7 @@ impl Ending {
     }
 }
 
-/// Why a play wasn't run to its end.
+/// Why a run wasn't run to its end.
 #[derive(Clone, Copy, Debug, PartialEq, Eq)]
 pub enum RunError {
     /// The log couldn't be written: the sink has counted it.
@@ -36,7 +36,7 @@ pub enum RunError {
 }
 
 impl From<AllocError> for RunError {
-    ghost use Rattle.play_run.specs.declared.ending.RunError.TheVariants.{Memory};
+    ghost use Rattle.log_writing.specs.declared.ending.RunError.TheVariants.{Memory};
 
     ghost from_gives = { λ _ e. e ≡ Memory };
 
@@ -46,7 +46,7 @@ impl From<AllocError> for RunError {
 }
 
 impl From<Failed> for RunError {
-    ghost use Rattle.play_run.specs.declared.ending.RunError.TheVariants.{Unwritten};
+    ghost use Rattle.log_writing.specs.declared.ending.RunError.TheVariants.{Unwritten};
 
     ghost from_gives = { λ _ e. e ≡ Unwritten };
 

@@ -2,7 +2,7 @@ use Rattle.std.proofs.Common.{◌≡◌, take, map}
 use Rattle.log_specs.specs.Line.{line_text}
 use Rattle.bus_log.specs.Lines.{line_of}
 use Rattle.bench_outside.specs.Pieces.{WritesAll}
-use Rattle.play_run.proofs.writing.write_lines.Given as goal
+use Rattle.log_writing.proofs.writing.write_lines.Given as goal
 
 -- The lines so far are written.
 abbrev pub invariant-loop-line : goal.invariant-loop-line
