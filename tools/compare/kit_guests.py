@@ -105,13 +105,17 @@ local.get 3 i32.const {operations.TRANSMIT} i32.eq local.get 3 i32.const {operat
 """
 
 
-def guest(texts, data=b"", terminal=0, more_data=(), start=None, pages=1):
-    """A module whose functions have these texts, and else do nothing; it emits at one terminal."""
+def functions_of(texts, terminal=0):
+    """The functions of a guest, which have these texts and else do nothing; it emits at one terminal."""
     given = {"bench_area": f"i32.const {AREA}", "fmi3GetClock": get_clock(terminal), "fmi3GetBinary": GET_BINARY,
              "fmi3UpdateDiscreteStates": UPDATE, "fmi3GetIntervalFraction": get_interval(0, 0),
              "fmi3FreeInstance": "", "copy": COPY, "spin": "", **texts}
-    functions = [Function(name, *kind, ["i32"] * 3, given.get(name, OK)) for name, kind in TYPES.items()]
-    return module(functions, VARIABLES, [(OPERATION, data), *more_data], pages, start)
+    return [Function(name, *kind, ["i32"] * 3, given.get(name, OK)) for name, kind in TYPES.items()]
+
+
+def guest(texts, data=b"", terminal=0, more_data=(), start=None):
+    """A module with these functions, and its operation in its memory."""
+    return module(functions_of(texts, terminal), VARIABLES, [(OPERATION, data), *more_data], 1, start)
 
 
 def sender_texts(length, counter, resolution):
