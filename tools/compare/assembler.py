@@ -1,7 +1,7 @@
 """Writes WebAssembly modules from instructions as text, with the names and opcodes of ../../vectors/bodies.py.
 
 The text of a function is words: an instruction and behind it its numbers. In place of an index stands the name of a
-global or function; `block`, `loop` and `if` may have a type behind them, a load or store an offset as `+4`.
+global or function; `block`, `loop` and `if` may have a type behind them, a load or store an offset as `+4`, `br_table` has `0,1,2`.
 """
 from collections import namedtuple
 
@@ -50,6 +50,9 @@ def numbers_of(name, words, names):
     if name in bodies.INDEXED:
         word = words.pop(0)
         return bytes([bodies.INDEXED[name]]) + unsigned(names[word] if word in names else int(word))
+    if name == "br_table":
+        *labels, last = map(int, words.pop(0).split(","))
+        return bytes([0x0E]) + bodies.vector([unsigned(label) for label in labels]) + unsigned(last)
     if name.endswith(".const"):
         bits = int(name[1:3])
         return bytes([0x41 if bits == 32 else 0x42]) + signed(int(words.pop(0)), bits)
