@@ -56,6 +56,8 @@ def numbers_of(name, words, names):
     if name.endswith(".const"):
         bits = int(name[1:3])
         return bytes([0x41 if bits == 32 else 0x42]) + signed(int(words.pop(0)), bits)
+    if name == "call_indirect":
+        return b"\x11" + unsigned(int(words.pop(0))) + b"\0"
     if name in ("memory.size", "memory.grow"):
         return bytes([0x3F if name == "memory.size" else 0x40, 0])
     raise ValueError(name)
@@ -73,20 +75,30 @@ def signature(function):
     return tuple(function.params), tuple(function.results)
 
 
-def module(functions, variables, datas, pages=1, start=None):
+def table_sections(entries, names):
+    """A table as large as a list of names of functions, and its segments; None where nothing is put."""
+    if not entries:
+        return b"", b""
+    segments = [b"\0\x41" + signed(place, 32) + b"\x0b" + bodies.vector([unsigned(names[name])])
+                for place, name in enumerate(entries) if name is not None]
+    return section(4, [b"\x70\0" + unsigned(len(entries))]), section(9, segments)
+
+
+def module(functions, variables, datas, pages=1, start=None, table=()):
     """The bytes of a module. A variable is a name, a type and a value; data are an offset and bytes; the
-    memory has the name `memory`."""
+    memory has the name `memory`; a table has the names of functions."""
     types = list(dict.fromkeys(map(signature, functions)))
     names = {name: place for place, (name, _, _) in enumerate(variables)}
     names.update({one.name: place for place, one in enumerate(functions)})
     out = b"\0asm\1\0\0\0" + section(1, [bodies.func_type(*one) for one in types])
     out += section(3, [unsigned(types.index(signature(one))) for one in functions])
-    out += section(5, [b"\0" + unsigned(pages)])
+    tables, elements = table_sections(table, names)
+    out += tables + section(5, [b"\0" + unsigned(pages)])
     out += section(6, [bytes([TYPES[kind], 1, 0x41 if kind == "i32" else 0x42])
                        + signed(value, int(kind[1:])) + b"\x0b" for _, kind, value in variables])
     exports = [sized(one.name.encode()) + b"\0" + unsigned(place) for place, one in enumerate(functions)]
     out += section(7, [sized(b"memory") + b"\2\0"] + exports)
     if start is not None:
         out += b"\x08" + sized(unsigned(names[start]))
-    out += section(10, [code(one, names) for one in functions])
+    out += elements + section(10, [code(one, names) for one in functions])
     return out + section(11, [b"\0\x41" + signed(offset, 32) + b"\x0b" + sized(data) for offset, data in datas])

@@ -15,6 +15,7 @@ import folder
 import kit_guests
 from assembler import module
 from folder_text import Network, Unit, put
+from module_bytes import Bytes
 from module_checks import ROWS
 from tried_modules import document_rows, from_runs, rows
 
@@ -92,34 +93,30 @@ def modules():
             yield f"{name}: {what}", with_module(from_runs(text), 1), line
 
 
+def with_segments(elements, *datas):
+    """A listener with a table of two entries, an element at an address of one byte, and data."""
+    whole = module(kit_guests.functions_of({}), kit_guests.VARIABLES, list(datas))
+    source, parts = Bytes(whole, 8, len(whole)), {4: TABLE_OF_TWO, 9: ELEMENTS % elements}
+    while not source.ends():
+        start = source.at
+        number = source.byte()
+        source.take(source.unsigned())
+        parts[number] = whole[start:source.at]
+    return whole[:8] + b"".join(part for _, part in sorted(parts.items()))
+
+
 def segments():
     """Elements and data that lead out of a table of two entries, or a memory of one page."""
-    def made(elements, *datas):
-        data = module(kit_guests.functions_of({}), kit_guests.VARIABLES, list(datas))
-        parts, at = {}, 8
-        while at < len(data):
-            number, start = data[at], at
-            at += 1
-            size, shift = 0, 0
-            while True:
-                size |= (data[at] & 127) << shift
-                shift += 7
-                at += 1
-                if data[at - 1] < 128:
-                    break
-            at += size
-            parts[number] = data[start:at]
-        parts.update({4: TABLE_OF_TWO, 9: ELEMENTS % elements})
-        return data[:8] + b"".join(part for _, part in sorted(parts.items()))
-
-    yield "segments that fit", with_module(made(b"\0", (65535, b"a"), (65536, b""))), ""
-    yield "elements past the end", with_module(made(b"\1")), "refused module 0 Segment 0 0"
-    yield "elements far past the end", with_module(made(b"\x7f")), "refused module 0 Segment 0 0"
-    yield "data past the end", with_module(made(b"\0", (0, b"a"), (65536, b"a"))), "refused module 0 Segment 1 1"
-    yield "no data past the end", with_module(made(b"\0", (65537, b""))), "refused module 0 Segment 0 1"
-    yield "data at the last address", with_module(made(b"\0", (-1, b"ab"))), "refused module 0 Segment 0 1"
-    yield "elements and data past the end", with_module(made(b"\1", (65536, b"a"))), "refused module 0 Segment 0 0"
-    without = made(b"\1").replace(b"memory", b"Memory")
+    for what, elements, datas, line in [
+            ("segments that fit", b"\0", [(65535, b"a"), (65536, b"")], ""),
+            ("elements past the end", b"\1", [], "refused module 0 Segment 0 0"),
+            ("elements far past the end", b"\x7f", [], "refused module 0 Segment 0 0"),
+            ("data past the end", b"\0", [(0, b"a"), (65536, b"a")], "refused module 0 Segment 1 1"),
+            ("no data past the end", b"\0", [(65537, b"")], "refused module 0 Segment 0 1"),
+            ("data at the last address", b"\0", [(-1, b"ab")], "refused module 0 Segment 0 1"),
+            ("elements and data past the end", b"\1", [(65536, b"a")], "refused module 0 Segment 0 0")]:
+        yield what, with_module(with_segments(elements, *datas)), line
+    without = with_segments(b"\1").replace(b"memory", b"Memory")
     yield "elements past the end, and no memory", with_module(without), "refused module 0 Segment 0 0"
 
 
