@@ -1,7 +1,8 @@
 """Writes WebAssembly modules from instructions as text, with the names and opcodes of ../../vectors/bodies.py.
 
 The text of a function is words: an instruction and behind it its numbers. In place of an index stands the name of a
-global or function; `block`, `loop` and `if` may have a type behind them, a load or store an offset as `+4`, `br_table` has `0,1,2`.
+global or function; `block`, `loop` and `if` may have a type behind them, a load or store an offset as `+4`, and
+`br_table` has its labels as `0,1,2`.
 """
 from collections import namedtuple
 

@@ -24,7 +24,8 @@ TYPES = ["i32", "i64"]
 VARIABLES = [("v0", "i32", 7), ("v1", "i64", -3)]
 SIGNATURES = [(("i32", "i64"), "i32"), (("i64",), "i64"), ((), None), (("i32", "i64"), "i32")]
 LOCALS = ["i32"] * 2
-NUMBERS = [0, 1, 2, 3, 7, 31, 32, 63, 64, 255, 65532, 65535, 65536, 2 ** 31 - 1, -2 ** 31, -1, -2, 2 ** 63 - 1, -2 ** 63]
+NUMBERS = [0, 1, 2, 3, 7, 31, 32, 63, 64, 255, 65532, 65535, 65536, 2 ** 31 - 1, -2 ** 31, -1, -2, 2 ** 63 - 1,
+           -2 ** 63]
 
 
 class Writer:
@@ -68,7 +69,8 @@ class Writer:
         return "".join(map(self.value, takes)) + name + " "
 
     def address(self):
-        return self.value("i32") + (f"i32.const {self.dice.choice([255, 65535])} i32.and " if self.dice.random() < 0.8 else "")
+        bounded = f"i32.const {self.dice.choice([255, 65535])} i32.and " if self.dice.random() < 0.8 else ""
+        return self.value("i32") + bounded
 
     def load(self, kind):
         name = self.dice.choice([name for name, row in bodies.ACCESS.items() if row[1] == kind and not row[3]])

@@ -74,7 +74,7 @@ class Draws:
 
 def random_module(dice, draws, terminals):
     """A module, and its countdown clocks."""
-    kind = dice.choice(["sender"] * 8 + ["talker"] * 4 + ["echo", "sleeper", "flooder", "two", "odd"]
+    kind = dice.choice(["sender"] * 8 + ["talker"] * 4 + ["echo", "sleeper", "flooder", "two"] + ["odd"] * 3
                        + ["listener"] * 2 if terminals == 1 else ["gateway"] * 3 + ["hub"] * 2 + ["sender", "echo"])
     if kind == "sender":
         return kit_guests.sender(draws.operation(), *draws.period()), [kit_guests.COUNTDOWN]
@@ -96,7 +96,7 @@ def random_module(dice, draws, terminals):
 
 
 def odd_module(dice, draws):
-    kind = dice.randrange(4)
+    kind = dice.randrange(6)
     if kind == 0:
         name = dice.choice(sorted(odd_guests.ODD_SENDERS))
         return odd_guests.odd_sender(name, draws.operation(), *draws.period()), [kit_guests.COUNTDOWN]

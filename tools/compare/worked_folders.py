@@ -14,7 +14,7 @@ import folder
 import kit_guests
 import odd_guests
 import operations
-from folder_text import Network, Unit, put
+from folder_text import Network, Unit
 
 SECOND = 10 ** 9
 TICK = 10 ** 7  # of the senders: 10/1000 s
@@ -225,6 +225,15 @@ def run(program, path):
     return done.returncode, done.stdout, done.stderr
 
 
+def usage(words):
+    """Programs that don't say that these words are no command."""
+    for program in words:
+        for wrong in [], ["run"], ["run", "a", "b"], ["Run", "a"]:
+            done = subprocess.run([program, *wrong], capture_output=True)
+            if (done.returncode, done.stdout, done.stderr) != (2, b"", b"usage\n"):
+                yield f"{program} {' '.join(wrong)}: {done.returncode} {done.stderr} in place of usage"
+
+
 def cut_modules():
     """A small module cut to its first bytes, and the refusal."""
     data = bytes.fromhex("0061736d0100000001060160017f017f030201000503010001070501016600000a0901070020002802000b")
@@ -256,6 +265,9 @@ def main(words):
                 if not right(found):
                     failed += 1
                     print(f"{name}: {who} answers {found[0]} {found[2]} {found[1][:400]}")
+    for line in usage(words):
+        failed += 1
+        print(line)
     print(f"{len(tried)} folders, {failed} are answered in another way")
     return 1 if failed else 0
 
