@@ -1,6 +1,7 @@
 #!/usr/bin/env bash
 # Compares runs of folders, and calls of functions, of a program with the second implementation in tools/compare.
-#     tools/folders.sh [PROGRAM [COUNT [SEED]]]     COUNT random folders and ten times as many calls; 200 and 1 if not said
+#     tools/folders.sh [PROGRAM [COUNT [SEED]]]     COUNT random folders, as many that are spoiled, ten times as many
+#                                                  calls; 200 and 1 if not said
 # PROGRAM is the built one if it isn't named; with `second` in its place the second implementation is checked alone.
 set -eu
 here=$(realpath "$(dirname "$0")")
@@ -22,5 +23,6 @@ try python3 worked_folders.py "${named[@]}"
 try python3 refused_folders.py "${named[@]}"
 try python3 random_calls.py $((10 * count)) "$seed" "${named[@]}"
 try python3 random_folders.py "$count" "$seed" "${named[@]}"
+try python3 random_refusals.py "$count" "$seed" "${named[@]}"
 try "$here/networks.sh" "$program"
 exit "$failed"

@@ -110,7 +110,9 @@ def odd_module(dice, draws):
 
 
 def damaged(dice, module):
-    """A module with a byte that is changed, added or left out."""
+    """A module with a byte that is changed, added or left out, or that is cut."""
+    if not module:
+        return b"\0"
     place = dice.randrange(len(module))
     byte = bytes([dice.choice([0, 1, 0x0B, 0x7F, 0x80, module[place] ^ 1 << dice.randrange(8), dice.randrange(256)])])
     return dice.choice([module[:place] + byte + module[place + 1:], module[:place] + byte + module[place:],
