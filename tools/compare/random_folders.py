@@ -189,7 +189,7 @@ def noted(seen, answer):
     for line in log.split(b"\n")[:-2]:
         words = line.split(b" ")
         kinds.add(b" ".join(words[2:3] + ([words[-1]] if words[2:3] in ([b"down"], [b"state"]) else [])))
-    seen.update(kinds)
+    seen.update(kinds - {b""})
 
 
 def main(words):
