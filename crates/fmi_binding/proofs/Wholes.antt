@@ -5,6 +5,7 @@ use Rattle.fmi_states.specs.declared.status.FmiStatus.{FmiStatus}
 use Rattle.fmi_states.specs.declared.call.Call.{Call}
 use Rattle.fmi_states.specs.declared.call.Call.TheVariants as call
 use Rattle.fmi_states.specs.declared.reply.Reply.{Reply}
+use Rattle.fmi_states.specs.declared.reply.Reply.TheVariants.{Plain}
 use Rattle.fmi_states.specs.declared.reply.Broken.{Broken}
 use Rattle.fmi_states.specs.declared.reply.Broken.TheVariants.{BadBuffer}
 use Rattle.wasm_types.specs.declared.instr.ValType.{ValType}
@@ -26,6 +27,7 @@ use Rattle.binding_specs.specs.declared.function.Function.TheVariants as functio
 use Rattle.binding_specs.specs.Guests.{Guest, area_size}
 use Rattle.binding_specs.specs.Pieces.{◌>>=◌, gives, run}
 use Rattle.binding_specs.specs.Exchanges.{calls, the_number, place_area, asks_area, is_fine, reply_if, starts, prepares, status_by, exchange}
+use Rattle.binding_laws.specs.Words.{is_instantiation}
 use Rattle.fmi_binding.specs.Coming.{Held, work_with, Comes, then_in, number_in, address_in, area_after, done_in}
 use Rattle.fmi_binding.proofs.Coming.{comes_on, comes_broken, gives_comes, number_comes}
 
@@ -141,3 +143,32 @@ few_pages m (l ∷ ls) = few_of l.max
 
 pub pages_few : (m : Module) (i : Instance) → IsMadeFrom m i → i.memory.pages ≤ 256
 pages_few m i x = omega (arith, x.within, x.greatest, few_pages (nested_module m) m.memories)
+
+-- ---- the instantiation
+
+module _ (g : Guest) (status : FmiStatus) (h k : Held) where
+  pub placed_reply : is_fine status ≡ true → Comes (asks_area g) h k (Ok tt) → Comes (reply_if (is_fine status) g call.Instantiate status) h k (Ok (Plain status))
+  placed_reply fine asked =
+      subst (λ b. Comes (reply_if b g call.Instantiate status) h k (Ok (Plain status))) (sym fine)
+      (comes_on (asks_area g) (λ done. gives (Plain status)) h k k tt (Ok (Plain status)) asked (gives_comes (Plain status) k))
+
+  pub not_placed : (why : Broken) → is_fine status ≡ true → Comes (asks_area g) h k (Err why) → Comes (reply_if (is_fine status) g call.Instantiate status) h k (Err why)
+  not_placed why fine asked =
+      subst (λ b. Comes (reply_if b g call.Instantiate status) h k (Err why)) (sym fine)
+      (comes_broken (asks_area g) (λ done. gives (Plain status)) h k why asked)
+
+pub another_call : (c : Call) → (c ≡ call.Instantiate → ⊥) → is_instantiation c ≡ false
+another_call call.Instantiate other = absurd (other refl)
+another_call call.EnterInit other = refl
+another_call call.ExitInit other = refl
+another_call call.EnterEvent other = refl
+another_call call.EnterStep other = refl
+another_call (call.SetClock reference) other = refl
+another_call (call.SetBinary reference bytes) other = refl
+another_call (call.GetClock reference) other = refl
+another_call (call.GetBinary reference) other = refl
+another_call call.Update other = refl
+another_call (call.GetInterval reference) other = refl
+another_call (call.DoStep from size) other = refl
+another_call call.Terminate other = refl
+another_call call.Free other = refl

@@ -2,3 +2,5 @@
 pub mod Faults
 pub mod States
 pub mod Coming
+pub mod Ecus
+pub mod Laws

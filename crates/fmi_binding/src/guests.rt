@@ -1,4 +1,7 @@
 //! What the guests of one world share.
+ghost use Rattle.std.specs.Prelude.{◌≡◌, [], IfOk};
+
+use std::alloc::{AllocError, Global};
 use wasm_machine::Stack;
 use wasm_memory::Pool;
 
@@ -7,4 +10,15 @@ use wasm_memory::Pool;
 pub struct Guests {
     pub(crate) pool: Pool,
     pub(crate) stack: Stack,
+}
+
+impl Guests {
+    /// A pool without memories, and a stack.
+    pub fn new(alloc: Global) -> Result<Guests, AllocError>
+        ensures { IfOk result (λ shared. shared.pool ≡ []) }
+    {
+        let pool = Pool::new(alloc)?;
+        let stack = Stack::new(alloc)?;
+        Ok(Guests { pool, stack })
+    }
 }

@@ -4,9 +4,11 @@
 mod asking;
 mod bound;
 mod bound_unit;
+mod copies;
 mod exchanging;
 mod exports;
 mod guests;
+mod instantiating;
 mod laws;
 mod preparing;
 mod reading;
@@ -15,6 +17,7 @@ mod running;
 mod sizes;
 mod state;
 mod types;
+mod wasm_ecu;
 
 pub use binding_specs::{BindError, Function};
 pub use bound::{check, check_module};
@@ -22,3 +25,4 @@ pub use bound_unit::BoundUnit;
 pub use guests::Guests;
 pub use laws::states_of_guests_are_those_of_units;
 pub use state::GuestState;
+pub use wasm_ecu::WasmEcu;

@@ -1,4 +1,5 @@
-use Rattle.fmi_binding.proofs.Units.{guest_behind, moves, suits, are_bytes}
+use Rattle.fmi_binding.specs.Laws.{moves, suits, are_bytes}
+use Rattle.fmi_binding.proofs.Units.{guest_behind}
 use Rattle.fmi_binding.proofs.laws.states_of_guests_are_those_of_units.Goals as goal
 
 pub returns-clause-behind : goal.returns-clause-behind
