@@ -1,12 +1,12 @@
 -- The close of a network: what it keeps, and what is seen behind it.
-use Rattle.std.proofs.Common.{◌≡◌, ◌*◌, ℕ, Bool, false, List, fold, length, map, sym, ap, ◌∙◌, subst}
+use Rattle.std.proofs.Common.{◌≡◌, ◌*◌, Bool, false, List, fold, length, map, sym, ap, ◌∙◌, subst}
 use Rattle.std.proofs.lemmas.List.{length-map}
 use Rattle.fmi_states.specs.declared.ecu.Ecu.{Ghosts}
 use Rattle.bus_specs.specs.Bus.{Bus}
 use Rattle.world_specs.specs.Fits.{Fits}
 use Rattle.world_specs.specs.Network.{node_closed}
 use Rattle.world_specs.specs.Plan.{Plan, units_of}
-use Rattle.world_specs.specs.World.{Node, World}
+use Rattle.world_specs.specs.World.{World}
 use Rattle.world_laws.specs.Words.{AllCounted}
 use Rattle.world_core.specs.Closing.{left_from}
 use Rattle.world_core.specs.Courses.{Course, network_of, nodes_from}

@@ -1,5 +1,5 @@
 -- The sessions of a moment: what they need of the network, and what it keeps behind them.
-use Rattle.std.proofs.Common.{◌≡◌, ◌≤◌, ◌<◌, ◌+◌, ◌*◌, ◌^◌, ℕ, List, [], ◌∷◌, ◌++◌, All, Option, Some, drop, take, length, map, arith, sym, refl, ap, ◌∙◌, subst}
+use Rattle.std.proofs.Common.{◌≡◌, ◌≤◌, ◌<◌, ◌+◌, ◌*◌, ℕ, List, [], ◌∷◌, All, Option, Some, drop, take, length, map, arith, sym, ap, ◌∙◌, subst}
 use Rattle.std.proofs.lemmas.List.{length-map}
 use Rattle.std.proofs.lemmas.List.Elements.{All-cons, All-head, All-nil, All-tail}
 use Rattle.fmi_states.specs.declared.ecu.Ecu.{Ghosts}
@@ -10,8 +10,7 @@ use Rattle.world_specs.specs.Next.{Event, Sessions, at, next_event}
 use Rattle.world_specs.specs.Plan.{NodePlan, Plan, units_of}
 use Rattle.world_specs.specs.Sessions.{node_after, turns, turns_step}
 use Rattle.world_specs.specs.Step.{event_lines, world_behind}
-use Rattle.world_specs.specs.Units.{Units}
-use Rattle.world_specs.specs.World.{Node, World}
+use Rattle.world_specs.specs.World.{Node}
 use Rattle.world_laws.specs.Words.{AllCounted, AnswersBytes}
 use Rattle.world_laws.proofs.Counted.{counted-step}
 use Rattle.world_laws.proofs.Fitting.{fits-from, fits-step}
@@ -21,7 +20,7 @@ use Rattle.world_laws.proofs.Timed.{forward, to-enabled}
 use Rattle.world_core.specs.Bare.{AreTurns, IsExpected}
 use Rattle.world_core.specs.Courses.{Course, network_of, nodes_from, standing_of}
 use Rattle.world_core.specs.Held.{IsHeld, LastIsBy, LastsAreBy}
-use Rattle.world_core.specs.Kept.{AreUnset, IsArranged, IsKept}
+use Rattle.world_core.specs.Kept.{AreUnset, IsKept}
 use Rattle.world_core.specs.SeenTurns.{seen}
 use Rattle.world_core.specs.Units.{states_of}
 use Rattle.world_core.specs.Walked.{Stays, bare_of}
