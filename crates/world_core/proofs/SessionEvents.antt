@@ -113,10 +113,6 @@ module _ {E G S : Type 0} (g : Ghosts E G S) (replies : AnswersBytes g.answer) (
       ∙ ap (turns_step t c.buses) same
       ∙ turns-same t c.buses (turns (units_of g.answer g.phase_of c.plan) c.buses t (network_of c (states_of g es shared)).nodes)
 
-  pub lines-are : (lines : List Line) → lines ≡ (turns_step t after.buses (map (seen after.plan.nodes) xs)).1
-      → lines ≡ event_lines (units_of g.answer g.phase_of c.plan) (network_of c (states_of g es shared)) (at Sessions t)
-  lines-are lines e = e ∙ ap (λ (p : List Bus × List Line). p.1) steps
-
   abbrev behind : Course
   behind = record c {
     buses = (turns_step t c.buses (turns (units_of g.answer g.phase_of c.plan) c.buses t (network_of c (states_of g es shared)).nodes)).0;
@@ -142,12 +138,6 @@ module _ {E G S : Type 0} (g : Ghosts E G S) (replies : AnswersBytes g.answer) (
     buses = (turns_step t c.buses (turns (units_of g.answer g.phase_of c.plan) c.buses t (network_of c (states_of g es shared)).nodes)).0;
     nodes = ns;
   }) nodes-are
-
-  pub network-is : network_of next (states_of g es' shared') ≡ world_behind (units_of g.answer g.phase_of c.plan) (network_of c (states_of g es shared)) (at Sessions t)
-  network-is = ap (λ (x : Course). network_of x (states_of g es' shared')) course-is ∙ network-behind
-
-  pub plan-is : next.plan ≡ c.plan
-  plan-is = ap (λ (x : Course). x.plan) course-is
 
   pub kept-behind : next_event c.plan.stop (network_of c (states_of g es shared)) ≡ Some (at Sessions t) → c.events < c.plan.events → IsHeld g after es' shared' → IsKept g next es' shared'
   kept-behind n l h =
