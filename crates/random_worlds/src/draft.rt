@@ -36,43 +36,51 @@ pub(crate) struct Draft {
     pub(crate) nodes: Vec<NodeDraft>,
 }
 
-/// The network of a text.
-pub(crate) fn read(alloc: Global, text: &[u8]) -> Result<Draft, Fault> {
-    let mut draft = Draft {
-        resolution: 0,
-        stop: 0,
-        events: 0,
-        buses: Vec::new(alloc),
-        nodes: Vec::new(alloc),
-    };
+/// The networks of a text, each of which begins with its line `world`.
+pub(crate) fn read(alloc: Global, text: &[u8]) -> Result<Vec<Draft>, Fault> {
+    let mut drafts = Vec::new(alloc);
     for line in parts(alloc, b'\n', text)? {
         if !line.is_empty() {
-            draft.take(alloc, line)?;
+            take(alloc, &mut drafts, line)?;
         }
     }
-    Ok(draft)
+    Ok(drafts)
+}
+
+fn take(alloc: Global, drafts: &mut Vec<Draft>, line: &[u8]) -> Result<(), Fault> {
+    let words = parts(alloc, b' ', line)?;
+    let Some((kind, rest)) = words.split_first() else {
+        return Err(Fault::Text);
+    };
+    if *kind == b"world".as_slice() {
+        put(drafts, opened(alloc, rest)?)?;
+        return Ok(());
+    }
+    match drafts.last_mut() {
+        Some(draft) => draft.take(alloc, *kind, rest),
+        None => Err(Fault::Text),
+    }
+}
+
+/// A network of which the first line is read.
+fn opened(alloc: Global, words: &[&[u8]]) -> Result<Draft, Fault> {
+    Ok(Draft {
+        resolution: number(words, 0, 1, 1_000_000_000_000)?,
+        stop: number(words, 1, 0, 1 << 62)?,
+        events: number(words, 2, 1, 100_000_000)?,
+        buses: Vec::new(alloc),
+        nodes: Vec::new(alloc),
+    })
 }
 
 impl Draft {
-    fn take(&mut self, alloc: Global, line: &[u8]) -> Result<(), Fault> {
-        let words = parts(alloc, b' ', line)?;
-        let Some((kind, rest)) = words.split_first() else {
-            return Err(Fault::Text);
-        };
-        match *kind {
-            b"world" => self.take_head(rest),
+    fn take(&mut self, alloc: Global, kind: &[u8], rest: &[&[u8]]) -> Result<(), Fault> {
+        match kind {
             b"bus" => self.take_bus(alloc, rest),
             b"error" => self.take_error(rest),
             b"node" => self.take_node(alloc),
-            _ => self.take_of_node(alloc, *kind, rest),
+            _ => self.take_of_node(alloc, kind, rest),
         }
-    }
-
-    fn take_head(&mut self, words: &[&[u8]]) -> Result<(), Fault> {
-        self.resolution = number(words, 0, 1, 1_000_000_000_000)?;
-        self.stop = number(words, 1, 0, 1 << 62)?;
-        self.events = number(words, 2, 1, 100_000_000)?;
-        Ok(())
     }
 
     fn take_bus(&mut self, alloc: Global, words: &[&[u8]]) -> Result<(), Fault> {

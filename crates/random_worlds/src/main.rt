@@ -1,8 +1,9 @@
-//! Runs a network whose text it reads, over units that answer from lists, and writes its log and then the calls
-//! of each unit. The text is that of tools/compare/world_text.py.
+//! Runs the networks whose text it reads, over units that answer from lists, and writes of each its log and then the
+//! calls of each unit. The text is that of tools/compare/world_text.py.
 #![tactic(auto)]
 
 mod calls;
+mod checking;
 mod draft;
 mod fault;
 mod planning;
@@ -30,9 +31,12 @@ fn main(rt: HostRuntime) -> ExitCode {
     }
 }
 
-/// What is written of the network of a text.
+/// What is written of the networks of a text, one behind the other.
 fn outcome(alloc: Global, text: &[u8]) -> Result<Vec<u8>, Fault> {
-    let draft = draft::read(alloc, text)?;
-    let (plan, units) = planning::plan_of(alloc, draft)?;
-    Ok(running::outcome_of(alloc, plan, units)?)
+    let mut all = Vec::new(alloc);
+    for draft in draft::read(alloc, text)? {
+        let (plan, units) = planning::plan_of(alloc, draft)?;
+        all.extend_from_slice(&running::outcome_of(alloc, plan, units)?)?;
+    }
+    Ok(all)
 }
