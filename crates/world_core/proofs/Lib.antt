@@ -26,3 +26,9 @@ pub mod NodeWalk
 pub mod Bareness
 pub mod Acting
 pub mod Turned
+pub mod SessionEvents
+pub mod CloseFits
+pub mod Shutting
+pub mod CloseWalk
+pub mod CloseSeen
+pub mod Stepping

@@ -34,7 +34,7 @@ use Rattle.world_core.proofs.Placing.{pair-at, unset-at, unset-set}
 
 -- ---- lists
 
-set-length : {X : Type 0} (xs : List X) (i : ℕ) (x : X) → length (slice_set xs i x) ≡ length xs
+pub set-length : {X : Type 0} (xs : List X) (i : ℕ) (x : X) → length (slice_set xs i x) ≡ length xs
 set-length [] i x = refl
 set-length (y ∷ ys) zero x = refl
 set-length (y ∷ ys) (suc i) x = ap suc (set-length ys i x)

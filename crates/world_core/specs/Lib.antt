@@ -17,3 +17,4 @@ pub mod Held
 pub mod Sits
 pub mod Left
 pub mod Walked
+pub mod Closing

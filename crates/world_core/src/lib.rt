@@ -2,6 +2,7 @@
 #![tactic(auto)]
 
 mod clocks;
+mod closing;
 mod course;
 mod event;
 mod happening;

@@ -40,6 +40,7 @@ impl Course {
         ensures sits { IfOk result (λ turn. (n : node_plan) (t : standing) → slice_get self.old.plan.nodes node ≡ Some n → slice_get self.old.standings node ≡ Some t
             → Sits E.Ecu now node n (called self.old.buses self.old.plan.resolution now node n t (drop (node * 8) self.old.clocks)) turn self.old self.new
             (states_of E.Ecu ecus.old.items shared.old) (states_of E.Ecu ecus.new.items shared.new)) }
+        ensures events { self.new.events ≡ self.old.events }
     {
         let plan = &self.nodes[node as usize];
         let standing = self.standings[node as usize];
@@ -89,6 +90,7 @@ impl Course {
         ensures turns { IfOk result (λ turns. map (seen self.old.plan.nodes) turns.items
             ≡ map bare_of (turns_of (units_of E.answer E.phase_of self.old.plan) self.old.buses now (network_of self.old (states_of E.Ecu ecus.old.items shared.old)).nodes)) }
         ensures there { IfOk result (λ turns. All (λ x. x.node < length self.old.plan.nodes) turns.items) }
+        ensures events { self.new.events ≡ self.old.events }
     {
         let mut turns = Vec::new(alloc);
         for node in 0..self.nodes.len() as u32 {

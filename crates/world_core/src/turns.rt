@@ -148,7 +148,7 @@ fn enter_all(buses: &mut Vec<Medium>, node: u32)
 }
 
 /// A node leaves every bus.
-fn leave_all(buses: &mut Vec<Medium>, node: u32)
+pub(crate) fn leave_all(buses: &mut Vec<Medium>, node: u32)
     ensures { buses.new.items ≡ map (λ b. leave b node) buses.old.items }
 {
     for medium in buses.iter_mut() {

@@ -1,15 +1,17 @@
 //! A network and its units.
-ghost use Rattle.std.specs.Prelude.{◌≡◌, ◌<◌, All, IfOk, OnErr, OnOk, Some, true, false, length, option_map, slice_get};
+ghost use Rattle.std.specs.Prelude.{◌≡◌, ◌<◌, All, IfOk, IfSome, OnErr, OnOk, Some, true, false, is_some, length, option_map, slice_get};
 ghost use Rattle.fmi_states.specs.declared.phase.Phase.TheVariants.{Fresh};
-ghost use Rattle.world_specs.specs.Next.{Finish, Return, Start, at, next_event};
+ghost use Rattle.world_specs.specs.Next.{Finish, Return, Sessions, Start, at, next_event};
+ghost use Rattle.world_specs.specs.Network.{close_lines, step};
 ghost use Rattle.world_specs.specs.Plan.{IsPlan, units_of};
 ghost use Rattle.world_specs.specs.Step.{event_lines, world_behind};
 ghost use Rattle.world_core.specs.Events.{event_of};
+ghost use Rattle.world_core.specs.Left.{network_closed, units_behind, units_closed};
 ghost use Rattle.world_core.specs.Seen.{opened};
 ghost use Rattle.world_core.specs.Units.{AreApart, states_of};
 
 use crate::course::Course;
-use crate::event::Event;
+use crate::event::{Event, What};
 use crate::plan::Plan;
 use bus_log::LineList;
 use fmi_states::Ecu;
@@ -166,6 +168,95 @@ impl<E: Ecu> World<E> {
         self.failed = true;
         let lines = self.course.start(alloc, bus, moment)?;
         self.course.count(moment);
+        self.failed = false;
+        Ok(lines)
+    }
+
+    /// The sessions of a moment.
+    fn sessions(&mut self, alloc: Global, moment: u64) -> Result<LineList, AllocError>
+        requires goes_on { self.old.failed ≡ false }
+        requires next { next_event self.old.plan.stop self.old.network ≡ Some (at Sessions moment) }
+        requires budget { self.old.network.events < self.old.plan.events }
+        ensures state { OnOk result (self.new ≡ record self.old {
+          network = world_behind (units_of E.answer E.phase_of self.old.plan) self.old.network (at Sessions moment);
+          units = units_behind (units_of E.answer E.phase_of self.old.plan) self.old.network (at Sessions moment) self.old.units;
+          shared = self.new.shared;
+        }) }
+        ensures lines { IfOk result (λ lines. lines ≡ event_lines (units_of E.answer E.phase_of self.old.plan) self.old.network (at Sessions moment)) }
+        ensures fails { OnErr result (self.new.failed ≡ true) }
+        ensures events { OnErr result (self.new.network.events ≡ self.old.network.events) }
+    {
+        self.failed = true;
+        let turns = self
+            .course
+            .sit_all(alloc, &mut self.ecus, &mut self.shared, moment)?;
+        let lines = self.course.take_turns(alloc, moment, &turns)?;
+        self.course.count(moment);
+        self.failed = false;
+        Ok(lines)
+    }
+
+    /// This event happens.
+    fn act(&mut self, alloc: Global, event: Event) -> Result<LineList, AllocError>
+        requires goes_on { self.old.failed ≡ false }
+        requires next { next_event self.old.plan.stop self.old.network ≡ Some (event_of event) }
+        requires budget { self.old.network.events < self.old.plan.events }
+        ensures state { OnOk result (self.new ≡ record self.old {
+          network = world_behind (units_of E.answer E.phase_of self.old.plan) self.old.network (event_of event);
+          units = units_behind (units_of E.answer E.phase_of self.old.plan) self.old.network (event_of event) self.old.units;
+          shared = self.new.shared;
+        }) }
+        ensures lines { IfOk result (λ lines. lines ≡ event_lines (units_of E.answer E.phase_of self.old.plan) self.old.network (event_of event)) }
+        ensures fails { OnErr result (self.new.failed ≡ true) }
+        ensures events { OnErr result (self.new.network.events ≡ self.old.network.events) }
+    {
+        let moment = event.moment;
+        match event.what {
+            What::Finish(bus) => self.finish(alloc, bus, moment),
+            What::Return { bus, node } => self.recover(alloc, bus, node, moment),
+            What::Sessions => self.sessions(alloc, moment),
+            What::Start(bus) => self.start(alloc, bus, moment),
+        }
+    }
+
+    /// The next event happens, and its lines come out. The units of the nodes that take part in its sessions
+    /// change, each by the calls of its own session; where it is no Sessions, none does. An error comes where
+    /// memory runs out: then the world has failed.
+    pub fn event(&mut self, alloc: Global) -> Result<LineList, AllocError>
+        requires goes_on { self.old.failed ≡ false }
+        requires next { is_some (next_event self.old.plan.stop self.old.network) ≡ true }
+        requires budget { self.old.network.events < self.old.plan.events }
+        ensures step { IfOk result (λ lines. step (units_of E.answer E.phase_of self.old.plan) self.old.plan.stop self.old.network ≡ Some (self.new.network, lines)) }
+        ensures units { OnOk result (IfSome (next_event self.old.plan.stop self.old.network)
+            (λ e. self.new.units ≡ units_behind (units_of E.answer E.phase_of self.old.plan) self.old.network e self.old.units)) }
+        ensures plan { OnOk result (self.new.plan ≡ self.old.plan) }
+        ensures goes_on { OnOk result (self.new.failed ≡ false) }
+        ensures fails { OnErr result (self.new.failed ≡ true) }
+        ensures events { OnErr result (self.new.network.events ≡ self.old.network.events) }
+    {
+        let event = self.next_event().unwrap();
+        self.act(alloc, event)
+    }
+
+    /// The unit of each live node is closed, in the order of the nodes, and the lines of those that fail come
+    /// out. A node that fails is down then, and every other that was live is over; they have left their buses.
+    /// Other units stay as they were. An error comes where memory runs out: then the world has failed.
+    pub fn close(&mut self, alloc: Global) -> Result<LineList, AllocError>
+        requires goes_on { self.old.failed ≡ false }
+        ensures state { OnOk result (self.new ≡ record self.old {
+          network = network_closed (units_of E.answer E.phase_of self.old.plan) self.old.network;
+          units = units_closed (units_of E.answer E.phase_of self.old.plan) self.old.network.nodes self.old.units;
+          shared = self.new.shared;
+        }) }
+        ensures lines { IfOk result (λ lines. lines ≡ close_lines (units_of E.answer E.phase_of self.old.plan) self.old.network) }
+        ensures fails { OnErr result (self.new.failed ≡ true) }
+        ensures events { OnErr result (self.new.network.events ≡ self.old.network.events) }
+    {
+        self.failed = true;
+        self.course.leave_live();
+        let lines = self
+            .course
+            .close_all(alloc, &mut self.ecus, &mut self.shared)?;
         self.failed = false;
         Ok(lines)
     }
