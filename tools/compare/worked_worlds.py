@@ -4,7 +4,7 @@
     worked_worlds.py [FOLDER]
 
 With a FOLDER it writes there the texts of these worlds, one behind the other, as `stdin`, and what world.py gives for
-them as `stdout`: what the program of crates/random_worlds reads, and what it has to write.
+them as `stdout`: what a program over these worlds reads, and what it has to write.
 """
 import os
 import sys
