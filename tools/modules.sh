@@ -1,7 +1,7 @@
 #!/usr/bin/env bash
 # Assembles each text of examples/modules with wat2wasm (Debian's package wabt), and compares what the built
 # program, or the one that is named, writes of the module with the line in the text; likewise what
-# tools/module_line.py writes. Then it runs the program on each module of vectors/bodies.txt: it is accepted, or refused
+# tools/module_line.py writes, and what the program writes of the calls in the text. Then it runs the program on each module of vectors/bodies.txt: it is accepted, or refused
 # as the table says; and what the program accepts, here and there, wabt's wasm-validate accepts. What isn't there is
 # skipped, and that is said.
 set -eu
@@ -80,6 +80,11 @@ if [ -x "$program" ]; then
     "$program" wasm "$folder/$name.wasm" > "$folder/answer" 2> "$folder/report" || fail "$name.wat: bench wasm has status $?"
     compare "$name" "bench wasm"
     accepted "$name"
+    while IFS= read -r call; do
+      "$program" call "$folder/$name.wasm" ${call%% = *} > "$folder/answer" 2> "$folder/report" || true
+      [ "$(cat "$folder/answer" "$folder/report")" = "${call#* = }" ] ||
+        fail "$name.wat: '$(cat "$folder/answer" "$folder/report")' in place of '$call'"
+    done < <(sed -n 's/^;; call: //p' "$name.wat")
   done
 fi
 exit "$failed"

@@ -1,5 +1,12 @@
 #!/usr/bin/env python3
-"""Worlds worked out by hand, against world.py: each log in full, and what is called of some units."""
+"""Worlds worked out by hand, against world.py: each log in full, and what is called of some units.
+
+    worked_worlds.py [FOLDER]
+
+With a FOLDER it writes there the texts of these worlds, one behind the other, as `stdin`, and what world.py gives for
+them as `stdout`: what a program over these worlds reads, and what it has to write.
+"""
+import os
 import sys
 
 import more_worlds
@@ -89,9 +96,21 @@ end 0 3""", {
 ]
 
 
+def text_of(lines, limits):
+    return "".join(line + "\n" for line in [lines[0] % limits] + lines[1:]).encode()
+
+
+def write_all(folder):
+    texts = [text_of(lines, limits) for _, lines, limits, _, _ in WORLDS + more_worlds.WORLDS]
+    outcomes = [world.outcome(world_text.read(text)) for text in texts]
+    for name, contents in [("stdin", texts), ("stdout", outcomes)]:
+        with open(os.path.join(folder, name), "wb") as file:
+            file.write(b"".join(contents))
+
+
 def wrong_worlds():
     for name, lines, limits, log, calls in WORLDS + more_worlds.WORLDS:
-        text = "".join(line + "\n" for line in [lines[0] % limits] + lines[1:]).encode()
+        text = text_of(lines, limits)
         plan = world_text.read(text)
         if world_text.written(plan) != text:
             yield f"{name}: its text is\n{world_text.written(plan).decode()}"
@@ -105,6 +124,8 @@ def wrong_worlds():
 
 
 if __name__ == "__main__":
+    for folder in sys.argv[1:]:
+        write_all(folder)
     wrong = list(wrong_worlds())
     print("\n".join(wrong) or f"{len(WORLDS + more_worlds.WORLDS)} worlds, as worked out")
     sys.exit(1 if wrong else 0)

@@ -2,3 +2,4 @@ pub mod Spaced
 pub mod Refusing
 pub mod Judging
 pub mod Modules
+pub mod CallForms

@@ -10,7 +10,11 @@ use Rattle.module_specs.specs.Reading.{◌>>=◌, refuse_if}
 use Rattle.module_specs.specs.ModuleReading.{module_read, differs, rest_at}
 use Rattle.module_report.specs.Line.{module_line}
 use Rattle.code_specs.specs.Validity.{IsValid}
+use Rattle.call_specs.specs.CallWords.{CallWords}
+use Rattle.call_specs.specs.Called.{called}
+use Rattle.call_specs.specs.CallLine.{call_line}
 use Rattle.bench.specs.Telling.{valid_lines, read_lines}
+use Rattle.bench.specs.Calling.{called_lines, checked_lines, call_lines}
 
 -- a file over its limit has that fault
 pub over_limit : (b : List ℕ) → most_bytes < length b → module_read b ≡ Err (fault.Size most_bytes)
@@ -23,3 +27,11 @@ over_limit b over =
 pub one_line : (line : List ℕ) (read : Result NestedModule Fault)
     → (m : NestedModule) × (line ≡ module_line m) × (read ≡ Ok m) × IsValid m → line ∷ [] ≡ read_lines read
 one_line line read is = ap (λ l. l ∷ []) is.1 ∙ sym (ap (valid_lines is.0) is.3) ∙ sym (ap read_lines is.2)
+
+-- and so is the line on a call
+pub one_call : (words : CallWords) (line : List ℕ) (read : Result NestedModule Fault)
+    → (m : NestedModule) × (index : ℕ) × (read ≡ Ok m) × IsValid m × (called m words.name words.arguments ≡ Ok index)
+    × (line ≡ call_line m index words.arguments words.fuel)
+    → line ∷ [] ≡ call_lines words read
+one_call words line read is =
+    ap (λ l. l ∷ []) is.5 ∙ sym (ap (called_lines words is.0) is.4) ∙ sym (ap (checked_lines words is.0) is.3) ∙ sym (ap (call_lines words) is.2)

@@ -9,9 +9,6 @@ use Rattle.code_specs.specs.Validity.{Invalid, Verdict, validity}
 use Rattle.wasm_reader.specs.declared.error.ReadError.{ReadError}
 use Rattle.wasm_reader.specs.declared.error.ReadError.TheVariants as error
 use Rattle.wasm_reader.specs.Outcome.{error_of}
-use Rattle.wasm_validate.specs.declared.invalid.Invalid.TheVariants as invalid
-use Rattle.module_report.specs.declared.report.ReportError.{ReportError}
-use Rattle.module_report.specs.declared.report.ReportError.TheVariants as report
 use Rattle.module_report.specs.Line.{module_line}
 use Rattle.bench_outside.specs.declared.refusal.FileId.TheVariants.{Main}
 use Rattle.bench_outside.specs.declared.refusal.Why.{Why}
@@ -70,12 +67,6 @@ valid_status (Err invalid) = invalid_status invalid
 abbrev pub valid_lines : NestedModule → Verdict → List (List ℕ)
 valid_lines m (Ok u) = module_line m ∷ []
 valid_lines m (Err invalid) = []
-
--- the status of a file that isn't accepted as a module; none has the fault that memory ran out
-abbrev pub report_status : ReportError → Status
-report_status (report.Read e) = error_status e
-report_status (report.Invalid (invalid.Rule rule place at)) = Refused (main_refusal_at (why_of rule) place at)
-report_status (report.Invalid invalid.Memory) = Memory
 
 -- those of a file that is read as a module, or that has a fault
 abbrev pub read_status : Result NestedModule Fault → Status

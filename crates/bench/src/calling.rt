@@ -15,13 +15,15 @@ ghost use Rattle.bench.specs.Calling.{fault_refusal, call_status, call_lines};
 use crate::fetching::{FetchError, fetch};
 use crate::refusals::{refused, refused_at};
 use crate::status::Status;
-use crate::telling::{LIMIT, unaccepted};
+use crate::telling::{LIMIT, status_of, why_of};
 use crate::words::CallWords;
 use bench_outside::{FileId, Shelf, Sink, Why};
 use call_run::{CallError, call_report};
 use call_specs::CallFault;
 use code_specs::Misfit;
+use module_report::ReportError;
 use std::alloc::Global;
+use wasm_validate::Invalid;
 
 /// Writes the line on a call of a function of a file's module.
 pub(crate) fn call_function<H: Shelf, O: Sink>(
@@ -70,7 +72,11 @@ fn call_in<O: Sink>(alloc: Global, words: &CallWords<'_>, bytes: &[u8], out: &mu
     let name = words.name.as_bytes();
     let line = match call_report(alloc, bytes, name, words.fuel, &words.arguments) {
         Ok(line) => line,
-        Err(CallError::Module(error)) => return unaccepted(error),
+        Err(CallError::Module(ReportError::Read(error))) => return status_of(error),
+        Err(CallError::Module(ReportError::Invalid(Invalid::Memory))) => return Status::Memory,
+        Err(CallError::Module(ReportError::Invalid(Invalid::Rule { rule, place, at }))) => {
+            return refused_at(why_of(rule), place, at);
+        }
         Err(CallError::Call(fault)) => return uncalled(fault),
         Err(CallError::Memory) => return Status::Memory,
     };

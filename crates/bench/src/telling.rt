@@ -11,7 +11,7 @@ ghost use Rattle.bench.specs.Statuses.{WritesNothing};
 ghost use Rattle.bench.specs.Words.{Wasm};
 ghost use Rattle.bench.specs.Deed.{Deed, CarriedOut, Caused, IsFault};
 ghost use Rattle.bench.specs.Deeds.{Does};
-ghost use Rattle.bench.specs.Telling.{error_status, why_of, report_status, read_status, read_lines};
+ghost use Rattle.bench.specs.Telling.{error_status, why_of, read_status, read_lines};
 
 use crate::fetching::{FetchError, fetch};
 use crate::refusals::{refused, refused_at};
@@ -73,7 +73,11 @@ fn tell_bytes<O: Sink>(alloc: Global, bytes: &[u8], out: &mut O) -> Status
 {
     let line = match module_report(alloc, bytes) {
         Ok(line) => line,
-        Err(error) => return unaccepted(error),
+        Err(ReportError::Read(error)) => return status_of(error),
+        Err(ReportError::Invalid(Invalid::Memory)) => return Status::Memory,
+        Err(ReportError::Invalid(Invalid::Rule { rule, place, at })) => {
+            return refused_at(why_of(rule), place, at);
+        }
     };
     match out.write(&line) {
         Ok(()) => Status::Done,
@@ -81,24 +85,8 @@ fn tell_bytes<O: Sink>(alloc: Global, bytes: &[u8], out: &mut O) -> Status
     }
 }
 
-/// The status of a file that isn't accepted as a module.
-pub(crate) fn unaccepted(error: ReportError) -> Status
-    ensures status { result ≡ report_status error }
-    ensures form { result ≢ Status.Usage }
-    ensures read { (file : FileId) → result ≢ Status.Unread file }
-    ensures written { result ≢ Status.Unwritten }
-{
-    match error {
-        ReportError::Read(error) => status_of(error),
-        ReportError::Invalid(Invalid::Memory) => Status::Memory,
-        ReportError::Invalid(Invalid::Rule { rule, place, at }) => {
-            refused_at(why_of(rule), place, at)
-        }
-    }
-}
-
 /// The status of a file that isn't read.
-fn status_of(error: ReadError) -> Status
+pub(crate) fn status_of(error: ReadError) -> Status
     ensures status { result ≡ error_status error }
     ensures form { result ≢ Status.Usage }
     ensures read { (file : FileId) → result ≢ Status.Unread file }
@@ -125,7 +113,7 @@ fn status_of(error: ReadError) -> Status
 }
 
 /// The name of a rule of validity.
-fn why_of(rule: Rule) -> Why
+pub(crate) fn why_of(rule: Rule) -> Why
     ensures { result ≡ why_of rule }
 {
     match rule {

@@ -1,8 +1,9 @@
 //! The words of the command line.
-ghost use Rattle.std.specs.Prelude.{◌≡◌, ◌^◌, ◌-◌, map, option_map, string_bytes, is_some, IfOk, IsErr, Some};
-ghost use Rattle.plain_text.specs.Decimal.{number_in};
-ghost use Rattle.call_specs.specs.CallWords.{CallWords as call_record, call_words, arguments_of_words, most_fuel};
-ghost use Rattle.bench.specs.Words.{command_of as command_in, meant, meant_call, of_one, of_call, Play, Wasm, Call, Run};
+ghost use Rattle.std.specs.Prelude.{◌≡◌, ◌^◌, ◌-◌, ℕ, Vec, map, option_map, string_bytes, is_some, IfOk, IfErr, Some};
+ghost use Rattle.std.specs.declared.alloc.Global.{Global};
+ghost use Rattle.plain_text.specs.Decimal.{number_in as number_in_of};
+ghost use Rattle.call_specs.specs.CallWords.{CallWords as call_record, arguments_of_words};
+ghost use Rattle.bench.specs.Words.{command_of as command_in, meant, of_one, of_call, Play, Wasm, Call, Run};
 
 use plain_text::number_in;
 use std::alloc::{AllocError, Global};
@@ -37,10 +38,7 @@ pub(crate) struct CallWords<'a> {
 }
 
 /// The command that the words are; None where they are no form of a command, and then no memory is taken.
-pub(crate) fn command_of(
-    alloc: Global,
-    words: &[String],
-) -> Result<Option<Command<'_>>, AllocError>
+pub(crate) fn command_of(alloc: Global, words: &[String]) -> Result<Option<Command<'_>>, AllocError>
     ensures form { IfOk result (λ c. option_map meant c ≡ command_in (map string_bytes words.now)) }
     ensures memory { IfErr result (λ e. (w : call_record) × (command_in (map string_bytes words.now) ≡ Some (Call w))) }
 {
@@ -106,7 +104,9 @@ fn of_call(alloc: Global, words: &[String]) -> Result<Option<Command<'_>>, Alloc
     if !are_arguments(words) {
         return Ok(None);
     }
-    let arguments = arguments_of(alloc, words)?;
+    let Some(arguments) = arguments_of(alloc, words)? else {
+        return Ok(None);
+    };
     Ok(Some(Command::Call(CallWords {
         file: file.as_str(),
         name: name.as_str(),
@@ -115,26 +115,40 @@ fn of_call(alloc: Global, words: &[String]) -> Result<Option<Command<'_>>, Alloc
     })))
 }
 
-/// Whether each word is a number of 64 bits.
+/// The number of 64 bits that a word is.
+fn argument_of(word: &str) -> Option<u64>
+    ensures { result ≡ number_in_of 0 (2 ^ 64 - 1) word.now }
+{
+    number_in(0, u64::MAX, word.as_bytes())
+}
+
+/// Whether each word is a number of 64 bits. Takes no memory.
 fn are_arguments(words: &[String]) -> bool
     ensures { result ≡ is_some (arguments_of_words (map string_bytes words.now)) }
 {
-    words
-        .iter()
-        .all(|word| number_in(0, u64::MAX, word.as_bytes()).is_some())
+    let mut left = words;
+    while let [word, others @ ..] = left {
+        if argument_of(word.as_str()).is_none() {
+            return false;
+        }
+        left = others;
+    }
+    true
 }
 
-/// The numbers that the words are.
-fn arguments_of(alloc: Global, words: &[String]) -> Result<Vec<u64>, AllocError>
-    requires { is_some (arguments_of_words (map string_bytes words.now)) ≡ true }
-    ensures { IfOk result (λ numbers. arguments_of_words (map string_bytes words.now) ≡ Some numbers.items) }
+/// The numbers that the words are; None where one of them is no number of 64 bits.
+fn arguments_of(alloc: Global, words: &[String]) -> Result<Option<Vec<u64>>, AllocError>
+    ensures { IfOk result (λ numbers. option_map (λ (v : Vec ℕ Global). v.items) numbers
+        ≡ arguments_of_words (map string_bytes words.now)) }
 {
     let mut numbers = Vec::new(alloc);
-    for word in words {
-        let Some(number) = number_in(0, u64::MAX, word.as_bytes()) else {
-            return Ok(numbers);
+    let mut left = words;
+    while let [word, others @ ..] = left {
+        let Some(number) = argument_of(word.as_str()) else {
+            return Ok(None);
         };
         numbers.push(number)?;
+        left = others;
     }
-    Ok(numbers)
+    Ok(Some(numbers))
 }

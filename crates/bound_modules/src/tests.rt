@@ -26,7 +26,7 @@ const ROWS: [(u32, &str); 16] = [
 ];
 
 /// Where bytes stand in others, for the first time.
-fn place_of(bytes: &[u8], part: &[u8]) -> Option<usize> {
+pub(crate) fn place_of(bytes: &[u8], part: &[u8]) -> Option<usize> {
     for place in 0..bytes.len() {
         if bytes[place..].starts_with(part) {
             return Some(place);
@@ -45,7 +45,7 @@ fn byte_at(bytes: &[u8], place: usize) -> Result<u8, Fail> {
     Ok(bytes.get(place).copied().ok_or("byte")?)
 }
 
-fn heartbeat(alloc: Global) -> Result<Vec<u8>, Fail> {
+pub(crate) fn heartbeat(alloc: Global) -> Result<Vec<u8>, Fail> {
     Ok(hex::decode(alloc, HEARTBEAT).ok().ok_or("bytes")?)
 }
 

@@ -4,9 +4,10 @@
 mod finding;
 mod line;
 mod machine;
+mod report;
 mod running;
 
-pub use running::{CallError, call_report};
+pub use report::{CallError, call_report};
 
 #[cfg(test)]
 mod tests;

@@ -1,5 +1,5 @@
 -- Which function of a valid module is called, or why none is.
-use Rattle.std.specs.Prelude.{ℕ, ◌+◌, ◌^◌, ◌==◌, ◌&&◌, List, [], ◌∷◌, Option, Some, None, Result, Ok, Err, length, nat_lt, if◌then◌else◌}
+use Rattle.std.specs.Prelude.{ℕ, ◌+◌, ◌^◌, ◌==◌, ◌&&◌, List, [], ◌∷◌, Option, Some, None, Result, Ok, Err, length, nat_lt, bytes_eq, if◌then◌else◌}
 use Rattle.wasm_types.specs.declared.instr.ValType.{ValType}
 use Rattle.wasm_types.specs.declared.module.FuncType.{FuncType}
 use Rattle.wasm_types.specs.declared.module.Export.{Export}
@@ -7,7 +7,6 @@ use Rattle.wasm_types.specs.Spellable.{width}
 use Rattle.wasm_types.specs.Modules.{NestedModule}
 use Rattle.code_specs.specs.declared.segment.Misfit.{Misfit}
 use Rattle.code_specs.specs.Signatures.{type_of_function}
-use Rattle.code_specs.specs.Validity.{is_same_name}
 use Rattle.code_specs.specs.Instances.{first_misfit}
 use Rattle.call_specs.specs.declared.fault.CallFault.{CallFault}
 use Rattle.call_specs.specs.declared.fault.CallFault.TheVariants.{Segment, Export as NotExported, Args}
@@ -16,7 +15,7 @@ use Rattle.call_specs.specs.declared.fault.CallFault.TheVariants.{Segment, Expor
 abbrev pub exported_function : List ℕ → List Export → Option ℕ
 exported_function name [] = None
 exported_function name (e ∷ es) =
-    if e.kind == 0 && is_same_name e.name name then Some e.index else exported_function name es
+    if e.kind == 0 && bytes_eq e.name name then Some e.index else exported_function name es
 
 -- the position of the first argument that is no number of its type, counted on from this one
 abbrev pub first_unfit : (place : ℕ) → List ValType → List ℕ → Option ℕ

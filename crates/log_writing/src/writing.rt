@@ -32,11 +32,7 @@ pub fn write_line<O: Sink>(alloc: Global, line: &Line, out: &mut O) -> Result<()
 /// Writes lines, one after another. `Unwritten` comes only where a write failed: the lines before that one stand there,
 /// of its own line a first part, and nothing behind it. `Memory` comes only where no write failed, and then whole lines
 /// stand there.
-pub fn write_lines<O: Sink>(
-    alloc: Global,
-    lines: &[Line],
-    out: &mut O,
-) -> Result<(), RunError>
+pub fn write_lines<O: Sink>(alloc: Global, lines: &[Line], out: &mut O) -> Result<(), RunError>
     ensures log { OnOk result
         (WritesAll O.Sink out.old out.new (map (λ l. line_text (line_of l)) lines.now)) }
     ensures part { IsErrOf result RunError.Unwritten

@@ -10,9 +10,9 @@ ghost use Rattle.bench_outside.specs.Pieces.{WritesAll, BreaksOff, StopsBefore};
 ghost use Rattle.log_writing.specs.Endings.{code_of};
 ghost use Rattle.play_run.specs.Scripts.{scenario_of, IsRunnable};
 
+use crate::Emission;
 use crate::playing::run_script;
 use crate::script::Script;
-use crate::Emission;
 use bench_outside::Sink;
 use bus_medium::BusSetup;
 use bus_ops::{Item, Op, Parameter};

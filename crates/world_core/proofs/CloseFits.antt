@@ -15,7 +15,7 @@ use Rattle.bus_sound.proofs.Lists.{All-each, among-map, each-All}
 use Rattle.bus_sound.proofs.Members.{is_from, is_to}
 use Rattle.bus_sound.proofs.Timed.{leave-in-time}
 use Rattle.world_specs.specs.Fits.{ClocksFrom, EndsBehind, Fits, IsAttached, IsJoined, LastBefore, LastBy, MailBehind, is_live, is_live_node}
-use Rattle.world_specs.specs.Network.{close_from, close_of, node_closed, standing_by, standing_closed}
+use Rattle.world_specs.specs.Network.{close_from, node_closed, standing_by, standing_closed}
 use Rattle.world_specs.specs.Units.{Units}
 use Rattle.world_specs.specs.World.{AreDistinct, Node, Standing, New, Live, Down, Over, World}
 use Rattle.world_laws.specs.Words.{AllCounted, IsCounted}

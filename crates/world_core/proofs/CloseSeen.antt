@@ -1,12 +1,12 @@
 -- The close of a network: what it keeps, and what is seen behind it.
-use Rattle.std.proofs.Common.{◌≡◌, ◌*◌, ℕ, Bool, false, List, fold, length, map, sym, ap, ◌∙◌, subst}
+use Rattle.std.proofs.Common.{◌≡◌, ◌*◌, Bool, false, List, fold, length, map, sym, ap, ◌∙◌, subst}
 use Rattle.std.proofs.lemmas.List.{length-map}
 use Rattle.fmi_states.specs.declared.ecu.Ecu.{Ghosts}
 use Rattle.bus_specs.specs.Bus.{Bus}
 use Rattle.world_specs.specs.Fits.{Fits}
 use Rattle.world_specs.specs.Network.{node_closed}
 use Rattle.world_specs.specs.Plan.{Plan, units_of}
-use Rattle.world_specs.specs.World.{Node, World}
+use Rattle.world_specs.specs.World.{World}
 use Rattle.world_laws.specs.Words.{AllCounted}
 use Rattle.world_core.specs.Closing.{left_from}
 use Rattle.world_core.specs.Courses.{Course, network_of, nodes_from}
@@ -22,9 +22,6 @@ use Rattle.world_core.proofs.CloseFits.{closed-counted, closed-fits, left-nodes}
 module _ {E G S : Type 0} (g : Ghosts E G S) (c : Course) (es : List E) (shared : G) (kept : IsKept g c es shared) (left after : Course) (es' : List E) (shared' : G)
     (leaves : left ≡ record c { buses = left_from 0 c.standings c.buses }) (stays : Stays left after)
     (nodes : (network_of after (states_of g es' shared')).nodes ≡ map (node_closed (units_of g.answer g.phase_of left.plan)) (network_of left (states_of g es shared)).nodes) where
-  abbrev closed-buses : List Bus
-  closed-buses = fold with_left c.buses (network_of c (states_of g es shared)).nodes
-
   buses-left : left_from 0 c.standings c.buses ≡ fold with_left c.buses (network_of c (states_of g es shared)).nodes
   buses-left = left-nodes 0 c.plan.nodes c.standings (states_of g es shared) c.clocks c.buses kept.arranged.standings (length-map es (λ x. g.state x shared) ∙ kept.each)
 
@@ -79,7 +76,6 @@ module _ {E G S : Type 0} (g : Ghosts E G S) (c : Course) (es : List E) (shared 
         shared = shared';
       }
   closed-seen failed x is ok states =
-      let u = units_of g.answer g.phase_of c.plan in
       let w : World S = network_of c (states_of g es shared) in
       let here : failed ≡ false = ap (λ (y : Seen S G). y.failed) is ∙ ok in
       let units = states ∙ ap (λ (y : Course). units_closed (units_of g.answer g.phase_of y.plan) (network_of y (states_of g es shared)).nodes (states_of g es shared)) leaves in

@@ -95,7 +95,6 @@ module _ {E G S : Type 0} (g : Ghosts E G S) (k : ℕ) (old after : Course) (ts 
   none-more : is_live t ≡ false → after ≡ record old { standings = ts; clocks = cs } → states_of g es' shared' ≡ states_of g es shared → ls' ≡ ls ++ []
       → IsClosing g (k + 1) old after before es' first shared' ls'
   none-more l a m x =
-      let u : Units S = units_of g.answer g.phase_of old.plan in
       let X : Node S = node_of k n t s (drop (k * 8) cs) in
       let ns : List (Node S) = nodes_from 0 old.plan.nodes ts (states_of g es shared) cs in
       let none : close_of (units_of g.answer g.phase_of old.plan) X ≡ None = none-closed (units_of g.answer g.phase_of old.plan) k n s (drop (k * 8) cs) t l in

@@ -1,5 +1,5 @@
 -- The sessions of a moment: what they need of the network, and what it keeps behind them.
-use Rattle.std.proofs.Common.{◌≡◌, ◌≤◌, ◌<◌, ◌+◌, ◌*◌, ◌^◌, ℕ, List, [], ◌∷◌, ◌++◌, All, Option, Some, drop, take, length, map, arith, sym, refl, ap, ◌∙◌, subst}
+use Rattle.std.proofs.Common.{◌≡◌, ◌≤◌, ◌<◌, ◌+◌, ◌*◌, ℕ, List, [], ◌∷◌, All, Option, Some, drop, take, length, map, arith, sym, ap, ◌∙◌, subst}
 use Rattle.std.proofs.lemmas.List.{length-map}
 use Rattle.std.proofs.lemmas.List.Elements.{All-cons, All-head, All-nil, All-tail}
 use Rattle.fmi_states.specs.declared.ecu.Ecu.{Ghosts}
@@ -10,8 +10,7 @@ use Rattle.world_specs.specs.Next.{Event, Sessions, at, next_event}
 use Rattle.world_specs.specs.Plan.{NodePlan, Plan, units_of}
 use Rattle.world_specs.specs.Sessions.{node_after, turns, turns_step}
 use Rattle.world_specs.specs.Step.{event_lines, world_behind}
-use Rattle.world_specs.specs.Units.{Units}
-use Rattle.world_specs.specs.World.{Node, World}
+use Rattle.world_specs.specs.World.{Node}
 use Rattle.world_laws.specs.Words.{AllCounted, AnswersBytes}
 use Rattle.world_laws.proofs.Counted.{counted-step}
 use Rattle.world_laws.proofs.Fitting.{fits-from, fits-step}
@@ -21,7 +20,7 @@ use Rattle.world_laws.proofs.Timed.{forward, to-enabled}
 use Rattle.world_core.specs.Bare.{AreTurns, IsExpected}
 use Rattle.world_core.specs.Courses.{Course, network_of, nodes_from, standing_of}
 use Rattle.world_core.specs.Held.{IsHeld, LastIsBy, LastsAreBy}
-use Rattle.world_core.specs.Kept.{AreUnset, IsArranged, IsKept}
+use Rattle.world_core.specs.Kept.{AreUnset, IsKept}
 use Rattle.world_core.specs.SeenTurns.{seen}
 use Rattle.world_core.specs.Units.{states_of}
 use Rattle.world_core.specs.Walked.{Stays, bare_of}
@@ -114,10 +113,6 @@ module _ {E G S : Type 0} (g : Ghosts E G S) (replies : AnswersBytes g.answer) (
       ∙ ap (turns_step t c.buses) same
       ∙ turns-same t c.buses (turns (units_of g.answer g.phase_of c.plan) c.buses t (network_of c (states_of g es shared)).nodes)
 
-  pub lines-are : (lines : List Line) → lines ≡ (turns_step t after.buses (map (seen after.plan.nodes) xs)).1
-      → lines ≡ event_lines (units_of g.answer g.phase_of c.plan) (network_of c (states_of g es shared)) (at Sessions t)
-  lines-are lines e = e ∙ ap (λ (p : List Bus × List Line). p.1) steps
-
   abbrev behind : Course
   behind = record c {
     buses = (turns_step t c.buses (turns (units_of g.answer g.phase_of c.plan) c.buses t (network_of c (states_of g es shared)).nodes)).0;
@@ -143,12 +138,6 @@ module _ {E G S : Type 0} (g : Ghosts E G S) (replies : AnswersBytes g.answer) (
     buses = (turns_step t c.buses (turns (units_of g.answer g.phase_of c.plan) c.buses t (network_of c (states_of g es shared)).nodes)).0;
     nodes = ns;
   }) nodes-are
-
-  pub network-is : network_of next (states_of g es' shared') ≡ world_behind (units_of g.answer g.phase_of c.plan) (network_of c (states_of g es shared)) (at Sessions t)
-  network-is = ap (λ (x : Course). network_of x (states_of g es' shared')) course-is ∙ network-behind
-
-  pub plan-is : next.plan ≡ c.plan
-  plan-is = ap (λ (x : Course). x.plan) course-is
 
   pub kept-behind : next_event c.plan.stop (network_of c (states_of g es shared)) ≡ Some (at Sessions t) → c.events < c.plan.events → IsHeld g after es' shared' → IsKept g next es' shared'
   kept-behind n l h =

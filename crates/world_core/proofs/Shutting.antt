@@ -1,5 +1,5 @@
 -- The close of one node, and what holds of nodes and units behind it.
-use Rattle.std.proofs.Common.{◌≡◌, ◌≤◌, ◌<◌, ◌+◌, ◌*◌, ℕ, zero, suc, Bool, true, false, List, [], All, drop, length, map, replicate, take, Ok, Err, Option, Some, None, Result, slice_get, slice_set, arith, refl, sym, ap, ◌∙◌, subst}
+use Rattle.std.proofs.Common.{◌≡◌, ◌≤◌, ◌<◌, ◌+◌, ◌*◌, ℕ, Bool, true, false, List, [], All, drop, length, replicate, take, Ok, Err, Option, Some, None, Result, slice_get, slice_set, arith, refl, sym, ◌∙◌, subst}
 use Rattle.std.proofs.lemmas.Bool.{both_ways}
 use Rattle.std.proofs.lemmas.List.{length-replicate}
 use Rattle.std.proofs.lemmas.Option.{slice_get_within}
@@ -35,7 +35,7 @@ closed-phase session.Live (Err why) e p h = absurd cc
 closed-phase session.Over r e p h = in-phase 0 session.Over p h
 closed-phase (session.Down why) r e p h = in-phase 0 (session.Down why) p h
 
--- the change of each clock
+-- a node that is live
 module _ {E G S : Type 0} (g : Ghosts E G S) (c : Course) (es : List E) (shared : G) (node : ℕ) (n : NodePlan) (t : Standing) (held : IsHeld g c es shared)
     (here : slice_get c.plan.nodes node ≡ Some n) (standing : slice_get c.standings node ≡ Some t) where
   in-course : node < length c.plan.nodes
@@ -62,9 +62,6 @@ module _ {E G S : Type 0} (g : Ghosts E G S) (c : Course) (es : List E) (shared 
       record { state = g.state u.item shared; here = state-at g es shared node u.item u.here; in_step = in-step t (g.phase_of (g.state u.item shared)) l p }
 
   module _ (live : is_live t ≡ true) (end : End) (es' : List E) (shared' : G) (closed : Closed g node (states_of g es shared) end (states_of g es' shared')) where
-    count : ℕ
-    count = length n.description.countdown
-
     all-cleared : length (replicate (length n.description.countdown) session.Clear) ≡ length n.description.countdown
     all-cleared = length-replicate (length n.description.countdown) session.Clear
 

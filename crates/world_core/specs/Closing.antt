@@ -1,5 +1,5 @@
 -- The close of a network without its units. No public clause cites this file.
-use Rattle.std.specs.Prelude.{◌≡◌, ◌<◌, ◌+◌, ◌*◌, ◌++◌, ℕ, Bool, true, false, List, [], ◌∷◌, Option, Some, None, drop, flat_map, if◌then◌else◌, length, map, replicate, slice_set, take}
+use Rattle.std.specs.Prelude.{◌≡◌, ◌+◌, ◌*◌, ◌++◌, ℕ, Bool, true, false, List, [], ◌∷◌, Option, Some, None, drop, flat_map, if◌then◌else◌, length, map, replicate, slice_set, take}
 use Rattle.fmi_states.specs.declared.ecu.Ecu.{Ghosts}
 use Rattle.log_specs.specs.Line.{Line}
 use Rattle.session_specs.specs.Outcome as session

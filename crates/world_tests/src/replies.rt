@@ -1,4 +1,7 @@
 //! What a unit answers, session by session.
+ghost use Rattle.std.specs.Prelude.{◌≡◌};
+ghost use Rattle.fmi_states.specs.declared.phase.Phase.TheVariants.{Fresh};
+
 use can_frame::Bytes;
 use fmi_states::{FmiStatus, ListEcu, Qualifier, Replies, Reply};
 use std::alloc::{AllocError, Global};
@@ -23,7 +26,9 @@ impl Script {
     }
 
     /// The unit that gives these replies.
-    pub(crate) fn unit(self) -> ListEcu {
+    pub(crate) fn unit(self) -> ListEcu
+        ensures { result.phase ≡ Fresh }
+    {
         ListEcu::new(Replies::of(self.replies))
     }
 

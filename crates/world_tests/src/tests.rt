@@ -1,13 +1,14 @@
 //! What no clause says: with ample memory a network opens and runs to its end, and which log it writes. The logs were worked
 //! out by hand.
 ghost use Rattle.std.specs.Prelude.{◌≡◌, ◌<◌, [], false, IfOk};
+ghost use Rattle.fmi_states.specs.declared.phase.Phase.TheVariants.{Fresh};
 ghost use Rattle.world_core.specs.Setups.{bus_plan_of};
 ghost use Rattle.world_laws.specs.Cases as case;
 ghost use Rattle.world_tests.specs.Opening as model;
 
 use crate::logs::log_of;
 use crate::replies::{FRAME, Script};
-use crate::three_nodes;
+use crate::three_nodes::{self, Units};
 use bus_medium::BusSetup;
 use can_frame::{Name, Numbers};
 use error_script::ErrorList;
@@ -157,15 +158,19 @@ fn listener(alloc: Global, frames: u8) -> Result<Script, AllocError> {
     Ok(script)
 }
 
-fn units_of_a_gateway(alloc: Global) -> Result<[ListEcu; 3], AllocError> {
+fn units_of_a_gateway(alloc: Global) -> Result<Units, AllocError>
+    ensures first { IfOk result (λ units. units.first.phase ≡ Fresh) }
+    ensures second { IfOk result (λ units. units.second.phase ≡ Fresh) }
+    ensures third { IfOk result (λ units. units.third.phase ≡ Fresh) }
+{
     let mut second = hearer(alloc, FRAME.as_slice())?;
     second.heard(alloc, &[NOTHING.as_slice(), NOTHING.as_slice()])?;
     second.closed()?;
-    Ok([
-        sender(alloc)?.unit(),
-        second.unit(),
-        listener(alloc, 1)?.unit(),
-    ])
+    Ok(Units {
+        first: sender(alloc)?.unit(),
+        second: second.unit(),
+        third: listener(alloc, 1)?.unit(),
+    })
 }
 
 #[test]
@@ -207,11 +212,11 @@ fn a_node_that_goes_down_in_its_first_session_hears_nothing(rt: HostRuntime) -> 
     let alloc = rt.alloc();
     let mut down = Script::new(alloc);
     down.status(FmiStatus::Error)?;
-    let units = [
-        sender(alloc)?.unit(),
-        down.unit(),
-        listener(alloc, 0)?.unit(),
-    ];
+    let units = Units {
+        first: sender(alloc)?.unit(),
+        second: down.unit(),
+        third: listener(alloc, 0)?.unit(),
+    };
     let mut world = three_nodes::opened(alloc, 124_000, 100, units)?;
     let log = log_of(alloc, &mut world, 100)?;
     let wanted = b"0 0 req 0 000#
@@ -234,7 +239,11 @@ fn the_frame_of_a_node_that_ends_goes_on_and_its_next_one_is_gone(
     first.ends(alloc)?;
     let mut second = hearer(alloc, NOTHING.as_slice())?;
     second.closed()?;
-    let units = [first.unit(), second.unit(), listener(alloc, 0)?.unit()];
+    let units = Units {
+        first: first.unit(),
+        second: second.unit(),
+        third: listener(alloc, 0)?.unit(),
+    };
     let mut world = three_nodes::opened(alloc, 1_000_000, 100, units)?;
     let log = log_of(alloc, &mut world, 100)?;
     let wanted = b"0 0 req 0 000#
@@ -253,11 +262,11 @@ fn a_close_that_fails_has_a_line(rt: HostRuntime) -> Result<(), Fail> {
     let alloc = rt.alloc();
     let mut second = hearer(alloc, NOTHING.as_slice())?;
     second.status(FmiStatus::Fatal)?;
-    let units = [
-        sender(alloc)?.unit(),
-        second.unit(),
-        listener(alloc, 0)?.unit(),
-    ];
+    let units = Units {
+        first: sender(alloc)?.unit(),
+        second: second.unit(),
+        third: listener(alloc, 0)?.unit(),
+    };
     let mut world = three_nodes::opened(alloc, 100_000, 100, units)?;
     let log = log_of(alloc, &mut world, 100)?;
     let wanted = b"0 0 req 0 000#

@@ -1,5 +1,6 @@
 //! A network of three nodes on two buses.
-ghost use Rattle.std.specs.Prelude.{◌≡◌, ◌≤◌, [], false, IfOk, length, map, option_map, Some, All};
+ghost use Rattle.std.specs.Prelude.{◌≡◌, ◌≤◌, [], false, IfOk};
+ghost use Rattle.fmi_states.specs.declared.phase.Phase.TheVariants.{Fresh};
 ghost use Rattle.world_core.specs.Setups.{bus_plan_of};
 ghost use Rattle.world_tests.specs.ThreeNodes as model;
 
@@ -107,19 +108,30 @@ fn three_nodes(alloc: Global, stop: u64, events: u64) -> Result<Plan, AllocError
     })
 }
 
-/// The network up to a stop, in ticks, with so many events at most, over these units.
+/// The units of the nodes.
+#[derive(Drop)]
+pub(crate) struct Units {
+    pub(crate) first: ListEcu,
+    pub(crate) second: ListEcu,
+    pub(crate) third: ListEcu,
+}
+
+/// The network up to a stop, in ticks, with so many events at most, over units that were never called.
 #[tactic(auto, using(crate::proofs::ThreeNodes::three_nodes_is))]
 pub(crate) fn opened(
     alloc: Global,
     stop: u32,
     events: u8,
-    units: [ListEcu; 3],
+    units: Units,
 ) -> Result<World<ListEcu>, AllocError>
     requires some { 1 ≤ events }
+    requires first { units.first.phase ≡ Fresh }
+    requires second { units.second.phase ≡ Fresh }
+    requires third { units.third.phase ≡ Fresh }
     ensures goes_on { IfOk result (λ world. world.failed ≡ false) }
     ensures budget { IfOk result (λ world. world.plan.events ≡ events) }
 {
     let plan = three_nodes(alloc, u64::from(stop), u64::from(events))?;
-    let [first, second, third] = units;
-    World::new(alloc, plan, vec![in alloc; first, second, third]?, ())
+    let ecus = vec![in alloc; units.first, units.second, units.third]?;
+    World::new(alloc, plan, ecus, ())
 }

@@ -1,4 +1,4 @@
-use Rattle.std.proofs.Common.{◌≡◌, ◌<◌, ◌*◌, true, length, replicate, Some, slice_get, slice_set, ap, refl, sym, ◌∙◌, subst, arith}
+use Rattle.std.proofs.Common.{◌≡◌, ◌<◌, ◌*◌, true, length, replicate, Some, slice_get, slice_set, ap, sym, ◌∙◌, subst, arith}
 use Rattle.std.proofs.lemmas.Option.{slice_get_read}
 use Rattle.unit_specs.specs.Description.{Description}
 use Rattle.session_specs.specs.Outcome.{Clear}

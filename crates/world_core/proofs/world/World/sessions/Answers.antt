@@ -2,7 +2,6 @@ use Rattle.std.proofs.Common.{All, ap, map, subst, sym, ◌∙◌}
 use Rattle.world_specs.specs.Next.{Sessions, at}
 use Rattle.world_specs.specs.Sessions.{turns_step}
 use Rattle.world_core.specs.Bare.{AreTurns, IsExpected}
-use Rattle.world_core.specs.Courses.{Course}
 use Rattle.world_core.specs.SeenTurns.{seen}
 use Rattle.world_core.proofs.Acting.{early, goes-on, on-course, room}
 use Rattle.world_core.proofs.SessionEvents.{are-expected, are-turns, kept-behind, lasts-by}
