@@ -1,5 +1,5 @@
 -- The files of a folder, one by one: words of this crate's own readers. No public clause cites this file.
-use Rattle.std.specs.Prelude.{◌≡◌, ◌×◌, ◌<◌, ℕ, Bool, true, false, List, [], ◌∷◌, ◌++◌, length, map, flat_map, Option, Some, None, option_and_then, Result, Ok, Err, IfOk, nat_lt, slice_get, if◌then◌else◌}
+use Rattle.std.specs.Prelude.{◌≡◌, ℕ, Bool, true, false, List, [], ◌∷◌, ◌++◌, length, map, flat_map, Option, Some, None, option_and_then, Result, Ok, Err, IfOk, nat_lt, slice_get, if◌then◌else◌}
 use Rattle.sha2.specs.Hashers.{Holds256}
 use Rattle.sha2.specs.declared.Sha256.{Sha256}
 use Rattle.unit_specs.specs.Description.{Description}
@@ -17,7 +17,7 @@ use Rattle.network_specs.specs.Nodes.{Node}
 use Rattle.network_specs.specs.NetworkFiles.{NetworkFile, network_file_of}
 use Rattle.network_specs.specs.Plans.{attached_buses}
 use Rattle.network_specs.specs.Judging.{refused_as}
-use Rattle.network_specs.specs.Networks.{File, Main, DescriptionOf, ModuleOf, InNetworkFile, InDescription, InModule, Unread, NodeParts, module_name, framed, node_plan_of, node_parts_at, node_parts_of}
+use Rattle.network_specs.specs.Networks.{File, Main, DescriptionOf, ModuleOf, InNetworkFile, InDescription, InModule, Unread, NodeParts, is_same_file, module_name, framed, node_plan_of, node_parts_at, node_parts_of}
 use Rattle.network_folder.specs.declared.error.NetError.{NetError}
 use Rattle.network_folder.specs.declared.error.NetError.TheVariants as answer
 use Rattle.network_folder.specs.declared.units.NodeUnit.{NodeUnit}
@@ -133,4 +133,4 @@ module _ {H : Type 0} (shelf : shelf_ghosts H) where
         → outcome_of (each (node_parts_of judged_unit (whole held) net) [] nodes) ≡ Err (answer.Refused r)
     pub unread : (id : FileId) (held : Contents) → result ≡ Err (answer.Unread id) → shelf.holds before ≡ Some held
         → (file : File) × (id ≡ file_id file)
-        × (each (node_parts_of judged_unit (lacking held file) net) [] nodes ≡ Err (Unread file)) × (name_among held net nodes file ≡ Some (shelf.read_faults now).last)
+        × (is_same_file file Main ≡ false) × (each (node_parts_of judged_unit (lacking held file) net) [] nodes ≡ Err (Unread file)) × (name_among held net nodes file ≡ Some (shelf.read_faults now).last)

@@ -1,0 +1,5 @@
+pub mod Shelves
+pub mod Files
+pub mod Node
+pub mod Nodes
+pub mod Whole
