@@ -1,5 +1,7 @@
 pub mod Shelves
-pub mod Files
-pub mod Node
-pub mod Nodes
+pub mod Texts
+pub mod Judged
+pub mod OneFile
+pub mod OneNode
+pub mod AllNodes
 pub mod Whole

@@ -13,6 +13,10 @@ use Rattle.network_folder.specs.Shelves.{Reads}
 abbrev pub failed : (X : Type 0) → NetError → Result X NetError
 failed X e = Err e
 
+-- no error
+abbrev pub done : Result (Unit {0}) NetError
+done = Ok tt
+
 abbrev found : {X : Type 0} → X → Result X NetError
 found x = Ok x
 

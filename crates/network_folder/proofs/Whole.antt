@@ -24,7 +24,7 @@ use Rattle.network_laws.proofs.ScriptInRange.{file_ranged}
 use Rattle.network_folder.specs.declared.error.NetError.{NetError}
 use Rattle.network_folder.specs.Outcomes.{judged_unit, network_in, whole, lacking, description_at, name_in, answer_of, outcome_of, IsUnit}
 use Rattle.network_folder.specs.Parts.{file_said, name_in_node, name_among, IsRead, AreRead}
-use Rattle.network_folder.proofs.Node.{said_ok}
+use Rattle.network_folder.proofs.OneNode.{said_ok}
 
 -- ---- the network, or where it stops
 
@@ -40,7 +40,7 @@ file_refused held net e h = go (network_file_of (held (network_file_name net))) 
     go : (r : Result NetworkFile _) → refused_as (λ x. answer_of (InNetworkFile x)) r ≡ Err e
         → outcome_of (refused_as InNetworkFile r >>= λ file. (each (node_parts_of judged_unit (whole held) net) [] file.nodes >>= λ nodes. Ok (network_of_parts file (held (network_file_name net)) nodes))) ≡ Err e
     go (Ok file) k = absurd (cc k)
-    go (Err x) k = k
+    go (Err x) k = let same : answer_of (InNetworkFile x) ≡ e = cc k in ap (λ y. Err y) same
 
 pub some_node_refused : (held : Contents) (net : List ℕ) (file : NetworkFile) (e : NetError) → network_file_of (held (network_file_name net)) ≡ Ok file
     → outcome_of (each (node_parts_of judged_unit (whole held) net) [] file.nodes) ≡ Err e → outcome_of (network_in (whole held) net) ≡ Err e

@@ -5,7 +5,9 @@ use Rattle.sha2.specs.declared.Sha256.{Sha256}
 use Rattle.unit_specs.specs.Description.{Description}
 use Rattle.document_specs.specs.Checks.{each}
 use Rattle.description_specs.specs.Descriptions.{description_of}
+use Rattle.wasm_types.specs.declared.module.Module.{Module}
 use Rattle.wasm_types.specs.Modules.{NestedModule}
+use Rattle.world_specs.specs.Plan.{NodePlan}
 use Rattle.wasm_types.specs.Back.{nested_module}
 use Rattle.bench_outside.specs.Shelf.{Contents}
 use Rattle.bench_outside.specs.declared.shelf.Shelf.{Ghosts as shelf_ghosts}
@@ -118,17 +120,17 @@ name_among held net nodes (DescriptionOf place) = option_and_then (λ n. name_in
 name_among held net nodes (ModuleOf place) = option_and_then (λ n. name_in_node held net n (ModuleOf place)) (slice_get nodes place)
 
 -- the nodes that were read, each with its parts
-pub record AreUnits (holds : Option Contents) (old new : Sha256) (net : List ℕ) (nodes : List Node) (units : Units) : Type 0 where
+pub record AreUnits (holds : Option Contents) (old new : Sha256) (net : List ℕ) (nodes : List Node) (plans : List NodePlan) (codes : List Module) : Type 0 where
   pub parts : List (NodeParts NestedModule)
-  pub plans : map node_plan_of parts ≡ units.plans.items
-  pub codes : map (λ (p : NodeParts NestedModule). p.code) parts ≡ map nested_module units.codes.items
+  pub are_plans : map node_plan_of parts ≡ plans
+  pub are_codes : map (λ (p : NodeParts NestedModule). p.code) parts ≡ map nested_module codes
   pub read : AreRead holds net nodes parts
   pub added : Adds old new (flat_map framed_node parts)
 
 module _ {H : Type 0} (shelf : shelf_ghosts H) where
   pub record ReadsNodes (before now : H) (old new : Sha256) (net : List ℕ) (nodes : List Node) (result : Result Units NetError) : Type 0 where
     pub reads : Reads shelf before now result
-    pub found : IfOk result (AreUnits (shelf.holds before) old new net nodes)
+    pub found : IfOk result (λ units. AreUnits (shelf.holds before) old new net nodes units.plans.items units.codes.items)
     pub refused : (r : Refusal) (held : Contents) → result ≡ Err (answer.Refused r) → shelf.holds before ≡ Some held
         → outcome_of (each (node_parts_of judged_unit (whole held) net) [] nodes) ≡ Err (answer.Refused r)
     pub unread : (id : FileId) (held : Contents) → result ≡ Err (answer.Unread id) → shelf.holds before ≡ Some held

@@ -1,7 +1,14 @@
 -- All nodes of a folder: each is read behind those before it.
 use Rattle.std.proofs.Common.{◌≡◌, ℕ, zero, suc, ◌+◌, ◌<◌, ◌==◌, Bool, true, false, List, [], ◌∷◌, ◌++◌, length, length-append, take, drop, get_or, map, refl, sym, ap, subst, ◌∙◌, append-nil, append_assoc, arith}
 use Rattle.std.specs.Prelude.{Option, Some, None, Result, Ok, Err, slice_get, flat_map}
-use Rattle.std.proofs.lemmas.List.{drop_more, take-append-drop}
+use Rattle.std.proofs.lemmas.List.{drop_more, take-append-drop, take_all, length-map, map-append}
+use Rattle.std.proofs.lemmas.Grind.{flat_map-append}
+use Rattle.sha2.specs.Hashers.{Holds256}
+use Rattle.sha2.specs.declared.Sha256.{Sha256}
+use Rattle.wasm_types.specs.declared.module.Module.{Module}
+use Rattle.wasm_types.specs.Back.{nested_module}
+use Rattle.bench_outside.specs.declared.shelf.Shelf.{Ghosts as shelf_ghosts}
+use Rattle.world_specs.specs.Plan.{NodePlan}
 use Rattle.std.proofs.lemmas.Bool.Decides.{nat_tests}
 use Rattle.wasm_types.specs.Modules.{NestedModule}
 use Rattle.binding_specs.specs.declared.error.BindError.{BindError}
@@ -9,11 +16,16 @@ use Rattle.bench_outside.specs.Shelf.{Contents}
 use Rattle.document_specs.specs.Checks.{◌>>=◌, each}
 use Rattle.network_specs.specs.Nodes.{Node}
 use Rattle.network_specs.specs.Judging.{ModuleRefusal, refused_as}
-use Rattle.network_specs.specs.Networks.{File, Main, DescriptionOf, ModuleOf, Stop, Unread, Folder, NodeParts, is_same_file, node_parts_at, node_parts_of}
+use Rattle.network_specs.specs.Networks.{File, Main, DescriptionOf, ModuleOf, Stop, Unread, Folder, NodeParts, is_same_file, node_plan_of, node_parts_at, node_parts_of}
 use Rattle.network_folder.specs.declared.error.NetError.{NetError}
+use Rattle.network_folder.specs.declared.error.NetError.TheVariants as answer
+use Rattle.network_folder.specs.declared.units.NodeUnit.{NodeUnit}
+use Rattle.network_folder.specs.declared.units.Units.{Units}
 use Rattle.network_folder.specs.Outcomes.{judged_unit, whole, lacking, answer_of, outcome_of}
-use Rattle.network_folder.specs.Parts.{SparesNode, IsFileOfNode, IsRead, AreRead, name_in_node, name_among}
-use Rattle.network_folder.proofs.Node.{folder, node_read}
+use Rattle.network_folder.specs.Parts.{SparesNode, IsFileOfNode, IsRead, AreRead, AreUnits, Adds, ReadsNode, ReadsNodes, name_in_node, name_among, framed_node}
+use Rattle.network_folder.specs.Shelves.{Reads}
+use Rattle.network_folder.proofs.Shelves.{failed, done, reads_on, reads_as, reads_error}
+use Rattle.network_folder.proofs.OneNode.{folder, node_read, adds_on}
 
 -- no read of a file of these nodes fails
 abbrev pub SparesBelow : ℕ → (File → Bool) → Type 0
@@ -119,3 +131,88 @@ pub named_among : (held : Contents) (net : List ℕ) (nodes : List Node) (i : �
 named_among held net nodes i n Main below is of = absurd of
 named_among held net nodes i n (DescriptionOf j) below is of = let e = ap (slice_get nodes) of ∙ there nodes i n below is in rw e refl
 named_among held net nodes i n (ModuleOf j) below is of = let e = ap (slice_get nodes) of ∙ there nodes i n below is in rw e refl
+
+-- ---- the nodes that a reader answers
+
+module _ {H : Type 0} (shelf : shelf_ghosts H) where
+  -- before the first
+  pub none_yet : (before : H) (old : Sha256) (net : List ℕ) (nodes : List Node) → AreUnits (shelf.holds before) old old net (take 0 nodes) [] []
+  none_yet before old net nodes = record {
+    parts = [];
+    are_plans = refl;
+    are_codes = refl;
+    read = none nodes;
+    added = λ m h. subst (Holds256 old) (sym (append-nil m)) h;
+  }
+    where
+      none : (ns : List Node) → AreRead (shelf.holds before) net (take 0 ns) []
+      none [] = tt
+      none (n ∷ ns) = tt
+
+  -- one more
+  pub one_more_unit : (before mid now : H) (first old new : Sha256) (net : List ℕ) (nodes : List Node) (i place : ℕ) (n : Node) (plans : List NodePlan) (codes : List Module) (u : NodeUnit)
+      → shelf.holds mid ≡ shelf.holds before → i < length nodes → n ≡ get_or nodes i n
+      → AreUnits (shelf.holds before) first old net (take i nodes) plans codes → ReadsNode shelf mid now old new net place n (Ok u)
+      → AreUnits (shelf.holds before) first new net (take (i + 1) nodes) (plans ++ u.plan ∷ []) (codes ++ u.code ∷ [])
+  one_more_unit before mid now first old new net nodes i place n plans codes u held below here so h =
+      let p = h.found.0 in
+      let read : IsRead (shelf.holds before) net n p = subst (λ o. IsRead o net n p) held h.found.3 in
+      record {
+        parts = so.parts ++ p ∷ [];
+        are_plans = map-append node_plan_of so.parts (p ∷ []) ∙ (ap (λ xs. xs ++ node_plan_of p ∷ []) so.are_plans ∙ ap (λ x. plans ++ x ∷ []) h.found.1);
+        are_codes = map-append code_of so.parts (p ∷ []) ∙ (ap (λ xs. xs ++ p.code ∷ []) so.are_codes ∙ (ap (λ x. map nested_module codes ++ x ∷ []) h.found.2 ∙ sym (map-append nested_module codes (u.code ∷ []))));
+        read = subst (λ ns. AreRead (shelf.holds before) net ns (so.parts ++ p ∷ [])) (sym (first_nodes nodes i n below here)) (one_more (shelf.holds before) net (take i nodes) so.parts n p so.read read);
+        added = subst (Adds first new) (sym (flat_map-append framed_node so.parts (p ∷ []) ∙ ap (λ x. flat_map framed_node so.parts ++ x) (append-nil (framed_node p)))) (adds_on first old new (flat_map framed_node so.parts) (framed_node p) so.added h.found.4);
+      }
+    where
+      code_of : NodeParts NestedModule → NestedModule
+      code_of q = q.code
+
+  -- a node stops it
+  pub node_stops : (before mid now : H) (first old new last : Sha256) (net : List ℕ) (nodes : List Node) (i place : ℕ) (n : Node) (plans : List NodePlan) (codes : List Module) (e : NetError)
+      → Reads shelf before mid done → i < length nodes → n ≡ get_or nodes i n → length plans ≡ i → place ≡ i
+      → AreUnits (shelf.holds before) first old net (take i nodes) plans codes → ReadsNode shelf mid now old new net place n (Err e)
+      → ReadsNodes shelf before now first last net nodes (Err e)
+  node_stops before mid now first old new last net nodes i place n plans codes e reads below here count at so h =
+      let many : length so.parts ≡ i = sym (length-map so.parts node_plan_of) ∙ (ap length so.are_plans ∙ count) in
+      let same : place ≡ length so.parts = at ∙ sym many in
+      record {
+        reads = reads_on shelf before mid now tt (Err e) reads (reads_error shelf mid now e h.reads);
+        found = tt;
+        refused = λ r held is held_is.
+            let k = h.refused r held (again (answer.Refused r) is) (reads.holds ∙ held_is) (λ f. false) (refl, refl) in
+            nodes_refused (shelf.holds before) held net nodes i n so.parts (answer.Refused r) held_is below here so.read
+            (subst (λ p. outcome_of (node_parts_at judged_unit (whole held) net p n) ≡ Err (answer.Refused r)) same k);
+        unread = λ f held is held_is.
+            let k = h.unread f held (again (answer.Unread f) is) (reads.holds ∙ held_is) in
+            let of : IsFileOfNode i k.0 = subst (λ p. IsFileOfNode p k.0) at k.2 in
+            (
+              k.0,
+              k.1,
+              not_main i k.0 of,
+              nodes_unread (shelf.holds before) held net nodes i n so.parts k.0 held_is below here many so.read of (subst (λ p. node_parts_at judged_unit (lacking held k.0) net p n ≡ Err (Unread k.0)) same k.3),
+              named_among held net nodes i n k.0 below here of ∙ k.4,
+            );
+      }
+    where
+      again : (w : NetError) → failed Units e ≡ Err w → failed NodeUnit e ≡ Err w
+      again w is = let same : e ≡ w = cc is in ap (λ x. Err x) same
+
+  -- all are there
+  pub nodes_there : (before now : H) (first new : Sha256) (net : List ℕ) (nodes : List Node) (i : ℕ) (units : Units) → i ≡ length nodes
+      → Reads shelf before now done → AreUnits (shelf.holds before) first new net (take i nodes) units.plans.items units.codes.items → ReadsNodes shelf before now first new net nodes (Ok units)
+  nodes_there before now first new net nodes i units end reads so = record {
+    reads = reads_as shelf before now done (Ok units) (λ f e. absurd (cc e)) (λ f e. absurd (cc e)) reads;
+    found = subst (λ ns. AreUnits (shelf.holds before) first new net ns units.plans.items units.codes.items) (ap (λ k. take k nodes) end ∙ take_all (length nodes) nodes (omega arith)) so;
+    refused = λ r held is held_is. absurd (cc is);
+    unread = λ f held is held_is. absurd (cc is);
+  }
+
+  -- memory ran out between two nodes
+  pub nodes_no_room : (before now : H) (first new : Sha256) (net : List ℕ) (nodes : List Node) → Reads shelf before now done → ReadsNodes shelf before now first new net nodes (Err answer.Memory)
+  nodes_no_room before now first new net nodes reads = record {
+    reads = reads_as shelf before now done (Err answer.Memory) (λ f e. absurd (cc e)) (λ f e. absurd (cc e)) reads;
+    found = tt;
+    refused = λ r held is held_is. absurd (cc is);
+    unread = λ f held is held_is. absurd (cc is);
+  }
