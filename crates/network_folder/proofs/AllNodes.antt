@@ -7,6 +7,7 @@ use Rattle.sha2.specs.Hashers.{Holds256}
 use Rattle.sha2.specs.declared.Sha256.{Sha256}
 use Rattle.wasm_types.specs.declared.module.Module.{Module}
 use Rattle.wasm_types.specs.Back.{nested_module}
+use Rattle.bench_outside.specs.declared.refusal.FileId.TheVariants as id
 use Rattle.bench_outside.specs.declared.shelf.Shelf.{Ghosts as shelf_ghosts}
 use Rattle.world_specs.specs.Plan.{NodePlan}
 use Rattle.std.proofs.lemmas.Bool.Decides.{nat_tests}
@@ -193,6 +194,7 @@ module _ {H : Type 0} (shelf : shelf_ghosts H) where
               nodes_unread (shelf.holds before) held net nodes i n so.parts k.0 held_is below here many so.read of (subst (λ p. node_parts_at judged_unit (lacking held k.0) net p n ≡ Err (Unread k.0)) same k.3),
               named_among held net nodes i n k.0 below here of ∙ k.4,
             );
+        elsewhere = λ is. h.elsewhere (again (answer.Unread id.Main) is);
       }
     where
       again : (w : NetError) → failed Units e ≡ Err w → failed NodeUnit e ≡ Err w
@@ -206,6 +208,7 @@ module _ {H : Type 0} (shelf : shelf_ghosts H) where
     found = subst (λ ns. AreUnits (shelf.holds before) first new net ns units.plans.items units.codes.items) (ap (λ k. take k nodes) end ∙ take_all (length nodes) nodes (omega arith)) so;
     refused = λ r held is held_is. absurd (cc is);
     unread = λ f held is held_is. absurd (cc is);
+    elsewhere = λ is. absurd (cc is);
   }
 
   -- memory ran out between two nodes
@@ -215,4 +218,19 @@ module _ {H : Type 0} (shelf : shelf_ghosts H) where
     found = tt;
     refused = λ r held is held_is. absurd (cc is);
     unread = λ f held is held_is. absurd (cc is);
+    elsewhere = λ is. absurd (cc is);
   }
+
+  pub one_more_pushed : (before mid now : H) (first old new : Sha256) (net : List ℕ) (nodes : List Node) (i place : ℕ) (n : Node) (plans now_plans : List NodePlan) (codes now_codes : List Module) (u : NodeUnit)
+      → shelf.holds mid ≡ shelf.holds before → i < length nodes → n ≡ get_or nodes i n
+      → AreUnits (shelf.holds before) first old net (take i nodes) plans codes → ReadsNode shelf mid now old new net place n (Ok u) → now_plans ≡ plans ++ u.plan ∷ [] → now_codes ≡ codes ++ u.code ∷ []
+      → AreUnits (shelf.holds before) first new net (take (i + 1) nodes) now_plans now_codes
+  one_more_pushed before mid now first old new net nodes i place n plans now_plans codes now_codes u held below here so h p c =
+      subst (λ ps. AreUnits (shelf.holds before) first new net (take (i + 1) nodes) ps now_codes) (sym p)
+      (subst (λ cs. AreUnits (shelf.holds before) first new net (take (i + 1) nodes) (plans ++ u.plan ∷ []) cs) (sym c) (one_more_unit before mid now first old new net nodes i place n plans codes u held below here so h))
+
+-- all of them
+pub all_read : (holds : Option Contents) (held : Contents) (net : List ℕ) (nodes : List Node) (ps : List (NodeParts NestedModule)) → holds ≡ Some held → AreRead holds net nodes ps
+    → each (node_parts_of judged_unit (whole held) net) [] nodes ≡ Ok ps
+all_read holds held net nodes ps is r =
+    ap (each (node_parts_of judged_unit (whole held) net) []) (sym (append-nil nodes)) ∙ behind holds held (λ f. false) net [] nodes [] ps is (λ k h. (refl, refl)) r

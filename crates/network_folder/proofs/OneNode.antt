@@ -104,6 +104,7 @@ module _ {H : Type 0} (shelf : shelf_ghosts H) where
     unread = λ f held is held_is.
         let k = h.unread f (again (answer.Unread f) is) in
         (DescriptionOf place, k.0, refl, description_unread held net place node, ap (λ n. Some n) (sym k.1));
+    elsewhere = λ is. let k = h.unread id.Main (again (answer.Unread id.Main) is) in absurd (cc k.0);
   }
     where
       again : (w : NetError) → failed NodeUnit e ≡ Err w → failed Description e ≡ Err w
@@ -117,6 +118,7 @@ module _ {H : Type 0} (shelf : shelf_ghosts H) where
     found = tt;
     refused = λ r held is held_is fails spared. absurd (cc is);
     unread = λ f held is held_is. absurd (cc is);
+    elsewhere = λ is. absurd (cc is);
   }
 
   described : (before now : H) (old new : Sha256) (net : List ℕ) (place : ℕ) (node : Node) (d : Description) (held : Contents)
@@ -135,6 +137,7 @@ module _ {H : Type 0} (shelf : shelf_ghosts H) where
         let same : refusal id.Main why.NodeBus place ≡ r = cc is in
         terminals_refused held fails net place node d spared (described before now old new net place node d held h held_is) none ∙ ap (λ x. Err (answer.Refused x)) same;
     unread = λ f held is held_is. absurd (cc is);
+    elsewhere = λ is. absurd (cc is);
   }
 
   -- the module is refused or unread
@@ -150,6 +153,7 @@ module _ {H : Type 0} (shelf : shelf_ghosts H) where
         let u = k.unread f (again (answer.Unread f) is) in
         let known = described before mid old half net place node d held h held_is in
         (ModuleOf place, u.0, refl, module_unread held net place node d buses known some, module_named held net node d known ∙ ap (λ n. Some n) (sym u.1));
+    elsewhere = λ is. let u = k.unread id.Main (again (answer.Unread id.Main) is) in absurd (cc u.0);
   }
     where
       again : (w : NetError) → failed NodeUnit e ≡ Err w → failed Module e ≡ Err w
@@ -177,6 +181,7 @@ module _ {H : Type 0} (shelf : shelf_ghosts H) where
     );
     refused = λ r held is held_is fails spared. absurd (cc is);
     unread = λ f held is held_is. absurd (cc is);
+    elsewhere = λ is. absurd (cc is);
   }
     where
       unit : NodeUnit

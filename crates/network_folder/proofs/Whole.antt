@@ -1,6 +1,8 @@
 -- A whole folder, by its network file and its nodes.
-use Rattle.std.proofs.Common.{◌≡◌, ℕ, ◌==◌, Bool, true, false, List, [], ◌∷◌, ◌++◌, length, map, All, refl, sym, ap, subst, ◌∙◌, append-nil, append_assoc}
+use Rattle.std.proofs.Common.{◌≡◌, ◌≤◌, ◌<◌, arith, ℕ, ◌==◌, Bool, true, false, List, [], ◌∷◌, ◌++◌, length, map, All, refl, sym, ap, subst, ◌∙◌, append-nil, append_assoc}
 use Rattle.std.specs.Prelude.{Option, option_map, option_and_then, Some, None, Result, Ok, Err, slice_get, flat_map, ⊤}
+use Rattle.std.proofs.lemmas.List.{length-map}
+use Rattle.sha2.specs.Sha256.{sha256}
 use Rattle.std.proofs.lemmas.List.Elements.{All-nil, All-cons}
 use Rattle.unit_specs.specs.Description.{Description}
 use Rattle.description_specs.specs.Descriptions.{description_of}
@@ -13,18 +15,19 @@ use Rattle.binding_specs.specs.Exports.{binding_fault}
 use Rattle.bench_outside.specs.Shelf.{Contents}
 use Rattle.document_specs.specs.Checks.{◌>>=◌, each}
 use Rattle.description_laws.proofs.Steps.{bind_ok}
-use Rattle.world_specs.specs.Plan.{IsPlan, NodePlan}
+use Rattle.world_specs.specs.Plan.{IsPlan, NodePlan, Plan}
 use Rattle.network_specs.specs.Nodes.{Node}
 use Rattle.network_specs.specs.NetworkFiles.{NetworkFile, network_file_of}
 use Rattle.network_specs.specs.Plans.{plan_of}
 use Rattle.network_specs.specs.Judging.{ModuleRefusal, Unreadable, Broken, Unfit, Unexported, refused_as, unless, judged}
-use Rattle.network_specs.specs.Networks.{File, Main, DescriptionOf, ModuleOf, Stop, InNetworkFile, Unread, Folder, NodeParts, Network, is_same_file, network_file_name, node_plan_of, node_parts_of, network_of_parts, network_of}
+use Rattle.network_specs.specs.Networks.{File, Main, DescriptionOf, ModuleOf, Stop, InNetworkFile, Unread, Folder, NodeParts, Network, is_same_file, network_file_name, node_plan_of, node_parts_of, framed_files, network_of_parts, network_of}
 use Rattle.network_laws.proofs.Planned.{IsKnown, Pairs, well_formed}
 use Rattle.network_laws.proofs.ScriptInRange.{file_ranged}
 use Rattle.network_folder.specs.declared.error.NetError.{NetError}
-use Rattle.network_folder.specs.Outcomes.{judged_unit, network_in, whole, lacking, description_at, name_in, answer_of, outcome_of, IsUnit}
+use Rattle.network_folder.specs.Outcomes.{judged_unit, network_in, whole, lacking, description_at, name_in, answer_of, outcome_of, IsUnit, IsSound}
 use Rattle.network_folder.specs.Parts.{file_said, name_in_node, name_among, IsRead, AreRead}
 use Rattle.network_folder.proofs.OneNode.{said_ok}
+use Rattle.network_folder.proofs.AllNodes.{as_many}
 
 -- ---- the network, or where it stops
 
@@ -106,3 +109,34 @@ known holds net (n ∷ ns) (p ∷ ps) r = (record { text = p.description_bytes; 
 
 pub plan_is : (holds : Option Contents) (net : List ℕ) (bytes : List ℕ) (file : NetworkFile) (ps : List (NodeParts NestedModule)) → network_file_of bytes ≡ Ok file → AreRead holds net file.nodes ps → IsPlan (plan_of file (map node_plan_of ps))
 plan_is holds net bytes file ps is r = well_formed judged_unit file ps (file_ranged bytes file is) (known holds net file.nodes ps r)
+
+-- ---- what was read, together
+
+pub file_known : (bytes : List ℕ) (file : NetworkFile) → file_said bytes ≡ Ok file → network_file_of bytes ≡ Ok file
+file_known bytes file h = said_ok (λ e. answer_of (InNetworkFile e)) (network_file_of bytes) file h
+
+pub few : (bytes : List ℕ) (file : NetworkFile) → file_said bytes ≡ Ok file → (length file.nodes ≤ 32) × (length file.buses ≤ 4)
+few bytes file h = let r = file_ranged bytes file (file_known bytes file h) in (r.some_nodes.1, r.some_buses.1)
+
+pub few_plans : (holds : Option Contents) (net : List ℕ) (nodes : List Node) (ps : List (NodeParts NestedModule)) (plans : List NodePlan) → AreRead holds net nodes ps → map node_plan_of ps ≡ plans → length nodes ≤ 32 → length plans < 4294967296
+few_plans holds net nodes ps plans r is h =
+    let many = as_many holds net nodes ps r in
+    let same = ap length (sym is) ∙ length-map ps node_plan_of in
+    omega (arith, many, same, h)
+
+abbrev made : Plan → List NestedModule → List ℕ → Network NestedModule
+made plan codes digest = record { plan = plan; codes = codes; digest = digest }
+
+pub same_network : (file : NetworkFile) (text : List ℕ) (ps : List (NodeParts NestedModule)) (plan : Plan) (plans : List NodePlan) (codes : List NestedModule) (digest : List ℕ) → plan ≡ plan_of file plans → map node_plan_of ps ≡ plans
+    → map (λ (p : NodeParts NestedModule). p.code) ps ≡ codes → digest ≡ sha256 (framed_files text ps) → network_of_parts file text ps ≡ made plan codes digest
+same_network file text ps plan plans codes digest plan_is plans_are codes_are digest_is =
+    ap (λ p. made p (map (λ (q : NodeParts NestedModule). q.code) ps) (sha256 (framed_files text ps))) (ap (plan_of file) plans_are ∙ sym plan_is)
+    ∙ (ap (λ cs. made plan cs (sha256 (framed_files text ps))) codes_are ∙ ap (made plan codes) (sym digest_is))
+
+pub sound_is : (holds : Option Contents) (net : List ℕ) (bytes : List ℕ) (file : NetworkFile) (ps : List (NodeParts NestedModule)) (plan : Plan) (plans : List NodePlan) (codes : List NestedModule) (digest : List ℕ) → network_file_of bytes ≡ Ok file
+    → AreRead holds net file.nodes ps → plan ≡ plan_of file plans → map node_plan_of ps ≡ plans → map (λ (p : NodeParts NestedModule). p.code) ps ≡ codes → IsSound (made plan codes digest)
+sound_is holds net bytes file ps plan plans codes digest is r plan_at plans_are codes_are = record {
+  plan = subst IsPlan (ap (plan_of file) plans_are ∙ sym plan_at) (plan_is holds net bytes file ps is r);
+  one_each = ap length (sym codes_are) ∙ (length-map ps (λ (p : NodeParts NestedModule). p.code) ∙ (sym (length-map ps node_plan_of) ∙ (ap length plans_are ∙ ap (λ (p : Plan). length p.nodes) (sym plan_at))));
+  units = subst (All IsUnit) codes_are (units_are holds net file.nodes ps r);
+}

@@ -12,6 +12,7 @@ use Rattle.wasm_types.specs.Back.{nested_module}
 use Rattle.bench_outside.specs.Shelf.{Contents}
 use Rattle.bench_outside.specs.declared.shelf.Shelf.{Ghosts as shelf_ghosts}
 use Rattle.bench_outside.specs.declared.refusal.FileId.{FileId}
+use Rattle.bench_outside.specs.declared.refusal.FileId.TheVariants as id
 use Rattle.bench_outside.specs.declared.refusal.Refusal.{Refusal}
 use Rattle.bench_outside.specs.declared.refusal.Why.TheVariants.{Size}
 use Rattle.refusal_names.specs.Modules.{refusal}
@@ -104,6 +105,7 @@ module _ {H : Type 0} (shelf : shelf_ghosts H) where
     pub unread : (id : FileId) (held : Contents) → result ≡ Err (answer.Unread id) → shelf.holds before ≡ Some held
         → (file : File) × (id ≡ file_id file) × IsFileOfNode place file
         × (node_parts_at judged_unit (lacking held file) net place node ≡ Err (Unread file)) × (name_in_node held net node file ≡ Some (shelf.read_faults now).last)
+    pub elsewhere : result ≡ Err (answer.Unread id.Main) → ⊥
 
 -- ---- all nodes
 
@@ -136,3 +138,4 @@ module _ {H : Type 0} (shelf : shelf_ghosts H) where
     pub unread : (id : FileId) (held : Contents) → result ≡ Err (answer.Unread id) → shelf.holds before ≡ Some held
         → (file : File) × (id ≡ file_id file)
         × (is_same_file file Main ≡ false) × (each (node_parts_of judged_unit (lacking held file) net) [] nodes ≡ Err (Unread file)) × (name_among held net nodes file ≡ Some (shelf.read_faults now).last)
+    pub elsewhere : result ≡ Err (answer.Unread id.Main) → ⊥
