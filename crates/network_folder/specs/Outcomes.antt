@@ -1,9 +1,10 @@
 -- What a folder on a shelf is read as: a network or its first refusal, by the names of a report.
-use Rattle.std.specs.Prelude.{◌≡◌, ℕ, Bool, false, All, List, length, Option, Some, None, option_map, option_and_then, Result, slice_get}
+use Rattle.std.specs.Prelude.{◌≡◌, ℕ, Bool, false, All, List, length, map, Option, Some, None, option_map, option_and_then, Result, slice_get}
 use Rattle.std.specs.Result.{result_ok}
 use Rattle.unit_specs.specs.Description.{Description}
 use Rattle.description_specs.specs.Descriptions.{description_of}
 use Rattle.wasm_types.specs.Modules.{NestedModule}
+use Rattle.wasm_types.specs.Back.{nested_module}
 use Rattle.code_specs.specs.Instances.{first_misfit}
 use Rattle.binding_specs.specs.declared.error.BindError.{BindError}
 use Rattle.binding_specs.specs.Exports.{binding_fault}
@@ -18,6 +19,7 @@ use Rattle.network_specs.specs.Nodes.{Node}
 use Rattle.network_specs.specs.NetworkFiles.{network_file_of}
 use Rattle.network_specs.specs.Judging.{ModuleRefusal, Unreadable, Broken, Unfit, Unexported, refused_as, judged}
 use Rattle.network_specs.specs.Networks.{File, Main, DescriptionOf, ModuleOf, Stop, InNetworkFile, InDescription, InModule, Unread, Folder, Network, is_same_file, network_file_name, description_name, module_name, network_of}
+use Rattle.network_folder.specs.declared.network.Network.{Network as network}
 use Rattle.network_folder.specs.declared.error.NetError.{NetError}
 use Rattle.network_folder.specs.declared.error.NetError.TheVariants as answer
 
@@ -83,6 +85,10 @@ abbrev pub outcome_of : {X : Type 0} → Result X (Stop (ModuleRefusal BindError
 outcome_of = refused_as answer_of
 
 -- ---- every network
+
+-- what a network of the code is in the words of the definitions
+abbrev pub seen : network → Network NestedModule
+seen n = record { plan = n.plan; codes = map nested_module n.codes.items; digest = n.digest }
 
 -- the module of a unit: its segments fit, and it exports what a unit has to
 pub record IsUnit (m : NestedModule) : Type 0 where

@@ -1,15 +1,18 @@
 -- The files of a folder, one by one: words of this crate's own readers. No public clause cites this file.
-use Rattle.std.specs.Prelude.{◌≡◌, ◌×◌, ◌<◌, ℕ, Bool, true, false, List, [], ◌∷◌, ◌++◌, length, map, flat_map, Option, Some, None, option_and_then, Result, Ok, Err, IfOk, nat_lt, slice_get, if◌then◌else◌}
+use Rattle.std.specs.Prelude.{◌≡◌, ℕ, Bool, true, false, List, [], ◌∷◌, ◌++◌, length, map, flat_map, Option, Some, None, option_and_then, Result, Ok, Err, IfOk, nat_lt, slice_get, if◌then◌else◌}
 use Rattle.sha2.specs.Hashers.{Holds256}
 use Rattle.sha2.specs.declared.Sha256.{Sha256}
 use Rattle.unit_specs.specs.Description.{Description}
 use Rattle.document_specs.specs.Checks.{each}
 use Rattle.description_specs.specs.Descriptions.{description_of}
+use Rattle.wasm_types.specs.declared.module.Module.{Module}
 use Rattle.wasm_types.specs.Modules.{NestedModule}
+use Rattle.world_specs.specs.Plan.{NodePlan}
 use Rattle.wasm_types.specs.Back.{nested_module}
 use Rattle.bench_outside.specs.Shelf.{Contents}
 use Rattle.bench_outside.specs.declared.shelf.Shelf.{Ghosts as shelf_ghosts}
 use Rattle.bench_outside.specs.declared.refusal.FileId.{FileId}
+use Rattle.bench_outside.specs.declared.refusal.FileId.TheVariants as id
 use Rattle.bench_outside.specs.declared.refusal.Refusal.{Refusal}
 use Rattle.bench_outside.specs.declared.refusal.Why.TheVariants.{Size}
 use Rattle.refusal_names.specs.Modules.{refusal}
@@ -17,7 +20,7 @@ use Rattle.network_specs.specs.Nodes.{Node}
 use Rattle.network_specs.specs.NetworkFiles.{NetworkFile, network_file_of}
 use Rattle.network_specs.specs.Plans.{attached_buses}
 use Rattle.network_specs.specs.Judging.{refused_as}
-use Rattle.network_specs.specs.Networks.{File, Main, DescriptionOf, ModuleOf, InNetworkFile, InDescription, InModule, Unread, NodeParts, module_name, framed, node_plan_of, node_parts_at, node_parts_of}
+use Rattle.network_specs.specs.Networks.{File, Main, DescriptionOf, ModuleOf, InNetworkFile, InDescription, InModule, Unread, NodeParts, is_same_file, module_name, framed, node_plan_of, node_parts_at, node_parts_of}
 use Rattle.network_folder.specs.declared.error.NetError.{NetError}
 use Rattle.network_folder.specs.declared.error.NetError.TheVariants as answer
 use Rattle.network_folder.specs.declared.units.NodeUnit.{NodeUnit}
@@ -102,6 +105,7 @@ module _ {H : Type 0} (shelf : shelf_ghosts H) where
     pub unread : (id : FileId) (held : Contents) → result ≡ Err (answer.Unread id) → shelf.holds before ≡ Some held
         → (file : File) × (id ≡ file_id file) × IsFileOfNode place file
         × (node_parts_at judged_unit (lacking held file) net place node ≡ Err (Unread file)) × (name_in_node held net node file ≡ Some (shelf.read_faults now).last)
+    pub elsewhere : result ≡ Err (answer.Unread id.Main) → ⊥
 
 -- ---- all nodes
 
@@ -118,19 +122,20 @@ name_among held net nodes (DescriptionOf place) = option_and_then (λ n. name_in
 name_among held net nodes (ModuleOf place) = option_and_then (λ n. name_in_node held net n (ModuleOf place)) (slice_get nodes place)
 
 -- the nodes that were read, each with its parts
-pub record AreUnits (holds : Option Contents) (old new : Sha256) (net : List ℕ) (nodes : List Node) (units : Units) : Type 0 where
+pub record AreUnits (holds : Option Contents) (old new : Sha256) (net : List ℕ) (nodes : List Node) (plans : List NodePlan) (codes : List Module) : Type 0 where
   pub parts : List (NodeParts NestedModule)
-  pub plans : map node_plan_of parts ≡ units.plans.items
-  pub codes : map (λ (p : NodeParts NestedModule). p.code) parts ≡ map nested_module units.codes.items
+  pub are_plans : map node_plan_of parts ≡ plans
+  pub are_codes : map (λ (p : NodeParts NestedModule). p.code) parts ≡ map nested_module codes
   pub read : AreRead holds net nodes parts
   pub added : Adds old new (flat_map framed_node parts)
 
 module _ {H : Type 0} (shelf : shelf_ghosts H) where
   pub record ReadsNodes (before now : H) (old new : Sha256) (net : List ℕ) (nodes : List Node) (result : Result Units NetError) : Type 0 where
     pub reads : Reads shelf before now result
-    pub found : IfOk result (AreUnits (shelf.holds before) old new net nodes)
+    pub found : IfOk result (λ units. AreUnits (shelf.holds before) old new net nodes units.plans.items units.codes.items)
     pub refused : (r : Refusal) (held : Contents) → result ≡ Err (answer.Refused r) → shelf.holds before ≡ Some held
         → outcome_of (each (node_parts_of judged_unit (whole held) net) [] nodes) ≡ Err (answer.Refused r)
     pub unread : (id : FileId) (held : Contents) → result ≡ Err (answer.Unread id) → shelf.holds before ≡ Some held
         → (file : File) × (id ≡ file_id file)
-        × (each (node_parts_of judged_unit (lacking held file) net) [] nodes ≡ Err (Unread file)) × (name_among held net nodes file ≡ Some (shelf.read_faults now).last)
+        × (is_same_file file Main ≡ false) × (each (node_parts_of judged_unit (lacking held file) net) [] nodes ≡ Err (Unread file)) × (name_among held net nodes file ≡ Some (shelf.read_faults now).last)
+    pub elsewhere : result ≡ Err (answer.Unread id.Main) → ⊥

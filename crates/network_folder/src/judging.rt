@@ -1,5 +1,8 @@
 //! What the bytes of a file are read as.
+ghost use Rattle.std.specs.Prelude.{◌≡◌};
 ghost use Rattle.wasm_types.specs.Back.{nested_module};
+ghost use Rattle.refusal_names.specs.Modules.{refusal};
+ghost use Rattle.network_folder.specs.Outcomes.{refused_if};
 ghost use Rattle.network_folder.specs.Parts.{Answers, file_said, description_said, module_said};
 
 use crate::error::NetError;
@@ -16,7 +19,9 @@ use wasm_reader::read_module;
 use wasm_validate::{Checked, Invalid, validate};
 
 /// A file breaks this rule at this place.
-pub(crate) fn refused(file: FileId, why: Why, place: u64) -> NetError {
+pub(crate) fn refused(file: FileId, why: Why, place: u64) -> NetError
+    ensures { result ≡ NetError.Refused (refusal file why place) }
+{
     NetError::Refused(Refusal {
         file,
         why,
@@ -88,7 +93,9 @@ pub(crate) fn module_of(
     Ok(code)
 }
 
-fn refused_if(refusal: Option<Refusal>) -> NetError {
+fn refused_if(refusal: Option<Refusal>) -> NetError
+    ensures { result ≡ refused_if refusal }
+{
     match refusal {
         Some(refusal) => NetError::Refused(refusal),
         None => NetError::Memory,

@@ -1,5 +1,4 @@
 //! A network that was read.
-use std::marker::Model;
 use wasm_validate::Checked;
 use world_core::Plan;
 
@@ -12,19 +11,4 @@ pub struct Network {
     pub codes: Vec<Checked>,
     /// SHA-256 over the network file and each node's description and module, each behind its length.
     pub digest: [u8; 32],
-}
-
-impl Model for Network {
-    ghost use Rattle.std.specs.Prelude.{map};
-    ghost use Rattle.wasm_types.specs.Modules.{NestedModule};
-    ghost use Rattle.wasm_types.specs.Back.{nested_module};
-    ghost use Rattle.network_specs.specs.Networks.{Network as network};
-
-    ghost Value = { network NestedModule };
-
-    ghost view = { λ n. record {
-      plan = n.plan;
-      codes = map nested_module n.codes.items;
-      digest = n.digest;
-    } };
 }

@@ -1,11 +1,11 @@
 //! A folder on a shelf.
-ghost use Rattle.std.specs.Prelude.{◌≡◌, ◌⊎◌, Some, Err, IfOk};
+ghost use Rattle.std.specs.Prelude.{◌≡◌, ◌⊎◌, Some, Ok, Err, IfOk};
 ghost use Rattle.bench_outside.specs.Shelf.{Contents};
 ghost use Rattle.bench_outside.specs.Causes.{Rose};
 ghost use Rattle.bench_outside.specs.declared.refusal.FileId.{FileId};
 ghost use Rattle.bench_outside.specs.declared.refusal.Refusal.{Refusal};
 ghost use Rattle.network_specs.specs.Networks.{File, Unread as unread, network_file_name};
-ghost use Rattle.network_folder.specs.Outcomes.{network_in, whole, lacking, name_in, file_id, outcome_of, IsSound};
+ghost use Rattle.network_folder.specs.Outcomes.{network_in, whole, lacking, name_in, file_id, outcome_of, seen, IsSound};
 
 use crate::error::NetError;
 use crate::files::read_main;
@@ -24,7 +24,7 @@ pub fn read_network<H: Shelf>(
     net: &str,
 ) -> Result<Network, NetError>
     // Where the shelf tells what it holds: the network of the folder, or its first refusal.
-    ensures found { IfOk result (λ n. (held : Contents) → H.holds shelf.old ≡ Some held → network_in (whole held) net.now ≡ Ok n) }
+    ensures found { IfOk result (λ n. (held : Contents) → H.holds shelf.old ≡ Some held → network_in (whole held) net.now ≡ Ok (seen n)) }
     ensures refused { (r : Refusal) (held : Contents) → result ≡ Err (NetError.Refused r) → H.holds shelf.old ≡ Some held
         → outcome_of (network_in (whole held) net.now) ≡ Err (NetError.Refused r) }
 
@@ -43,7 +43,7 @@ pub fn read_network<H: Shelf>(
     ensures others { H.write_faults shelf.new ≡ H.write_faults shelf.old }
 
     // Whether or not the shelf tells what it holds: the plan is well formed, and each node has a code that is a unit's.
-    ensures sound { IfOk result IsSound }
+    ensures sound { IfOk result (λ n. IsSound (seen n)) }
 {
     let mut digest = Sha256::new();
     let file = match read_main(alloc, shelf, net, &mut digest) {

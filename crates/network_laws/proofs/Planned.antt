@@ -161,10 +161,10 @@ buses_planned p place buses nodes es h script (b ∷ bs) all = (
 
 module _ {Code Why : Type 0} (judge : Description → List ℕ → Result Code Why) where
   -- what the files of a node say
-  record IsKnown (node : Node) (part : NodeParts Code) : Type 0 where
-    text : List ℕ
-    described : description_of text ≡ Ok part.description
-    attached : attached_buses node.attachments part.description.terminals ≡ Some part.buses
+  pub record IsKnown (node : Node) (part : NodeParts Code) : Type 0 where
+    pub text : List ℕ
+    pub described : description_of text ≡ Ok part.description
+    pub attached : attached_buses node.attachments part.description.terminals ≡ Some part.buses
 
   known : (folder : Folder) (net : List ℕ) (place : ℕ) (node : Node) (part : NodeParts Code) → node_parts_at judge folder net place node ≡ Ok part → IsKnown node part
   unfolding node_parts_at
@@ -177,7 +177,7 @@ module _ {Code Why : Type 0} (judge : Description → List ℕ → Result Code W
       let same : record { description = d.0; buses = buses.0; code = code.0; description_bytes = text.0; code_bytes = bytes.0 } ≡ part = cc code.2 in
       subst (IsKnown node) same (record { text = text.0; described = refused_ok (InDescription place) (description_of text.0) d.0 d.1; attached = buses.1 })
 
-  abbrev Pairs : List Node → List (NodeParts Code) → Type 0
+  abbrev pub Pairs : List Node → List (NodeParts Code) → Type 0
   Pairs [] [] = ⊤
   Pairs [] (p ∷ ps) = ⊥
   Pairs (n ∷ ns) [] = ⊥
@@ -226,7 +226,7 @@ module _ {Code Why : Type 0} (judge : Description → List ℕ → Result Code W
       let r = names_it buses bus i ns ps on.node k h on.there on.stands in
       subst (λ j. among (naming_from 0 (map node_plan_of ps) bus) j ≡ true) (omega arith) (named_by 0 i bus (map node_plan_of ps) r.0 r.1 r.2)
 
-  well_formed : (file : NetworkFile) (ps : List (NodeParts Code)) → IsInRange file → Pairs file.nodes ps → IsPlan (plan_of file (map node_plan_of ps))
+  pub well_formed : (file : NetworkFile) (ps : List (NodeParts Code)) → IsInRange file → Pairs file.nodes ps → IsPlan (plan_of file (map node_plan_of ps))
   well_formed file ps r k =
       let nodes = map node_plan_of ps in
       let many = as_many file.nodes ps k in

@@ -8,6 +8,3 @@ mod plan;
 
 pub use attached::attached_buses;
 pub use plan::plan_of;
-
-#[cfg(test)]
-mod tests;
