@@ -2,7 +2,7 @@
 ghost use Rattle.std.specs.Prelude.{◌≡◌, ◌≢◌, ◌⊎◌, ℕ, List, Some, map};
 ghost use Rattle.log_specs.specs.Line.{line_text};
 ghost use Rattle.network_specs.specs.Networks.{network_file_name};
-ghost use Rattle.network_folder.specs.Outcomes.{IsSound};
+ghost use Rattle.network_folder.specs.Outcomes.{IsSound, seen};
 ghost use Rattle.ideal_specs.specs.Ideal.{ideal_lines, ideal_status};
 ghost use Rattle.bench_outside.specs.Shelf.{Contents};
 ghost use Rattle.bench_outside.specs.Causes.{Rose};
@@ -49,17 +49,17 @@ pub(crate) fn run_folder<H: Shelf, O: Sink>(
 
 /// Runs a network that was read, and writes its log.
 fn run_read<O: Sink>(alloc: Global, network: Network, out: &mut O) -> Status
-    requires sound { IsSound network }
+    requires sound { IsSound (seen network) }
 
     // Which answer comes.
-    ensures answer { IsFault result ⊎ (result ≡ ended (ideal_status network)) }
+    ensures answer { IsFault result ⊎ (result ≡ ended (ideal_status (seen network))) }
     ensures form { result ≢ Status.Usage }
     ensures read { (file : FileId) → result ≢ Status.Unread file }
 
     // What is written, and which fault is answered.
-    ensures whole { IsFault result ⊎ WritesAll O.Sink out.old out.new (map line_text (ideal_lines network)) }
-    ensures broken { result ≡ Status.Unwritten → BreaksOff O.Sink out.old out.new (map line_text (ideal_lines network)) }
-    ensures stopped { result ≡ Status.Memory → StopsBefore O.Sink out.old out.new (map line_text (ideal_lines network)) }
+    ensures whole { IsFault result ⊎ WritesAll O.Sink out.old out.new (map line_text (ideal_lines (seen network))) }
+    ensures broken { result ≡ Status.Unwritten → BreaksOff O.Sink out.old out.new (map line_text (ideal_lines (seen network))) }
+    ensures stopped { result ≡ Status.Memory → StopsBefore O.Sink out.old out.new (map line_text (ideal_lines (seen network))) }
     ensures untouched { WritesNothing result → out.new ≡ out.old }
     ensures unwritten { result ≡ Status.Unwritten → Rose (O.faults out.old) (O.faults out.new) }
     ensures kept { (result ≡ Status.Unwritten) ⊎ (O.faults out.new ≡ O.faults out.old) }

@@ -7,7 +7,10 @@ use Rattle.world_specs.specs.Plan.{NodePlan, Plan, opening_of, units_of}
 use Rattle.world_specs.specs.Network.{run_lines, run_status}
 use Rattle.held_states.specs.Held.{IsHeldAs, world_as}
 use Rattle.held_states.proofs.Runs.{lines-held, status-held, opening-held}
+use Rattle.fmi_binding.specs.declared.guests.Guests.{Guests}
+use Rattle.fmi_binding.specs.declared.state.GuestState.{GuestState}
 use Rattle.fmi_binding.specs.States.{guest_of, state_answer}
+use Rattle.world_core.specs.Seen.{Seen, opened}
 use Rattle.guest_worlds.specs.Opening.{opening_states}
 use Rattle.ideal_specs.specs.Ideal.{guest_units, guests_from}
 
@@ -36,3 +39,18 @@ pub ideal-status : (p : Plan) (ms : List Module) (stop budget : ℕ)
 ideal-status p ms stop budget =
     sym (status-held guest_of state_answer (λ s. s.phase) answer (λ g. g.phase) guests-answer p stop budget (opening_of p (opening_states p.fuel ms p.nodes)))
     ∙ ap (run_status (guest_units p) stop budget) (same-world p ms)
+
+-- what is left of a world that was opened so
+pub lines-of : (p : Plan) (ms : List Module) (w : Seen GuestState Guests) (budget : ℕ) → w ≡ opened p (opening_states p.fuel ms p.nodes) w.shared
+    → run_lines (units_of state_answer (λ s. s.phase) w.plan) w.plan.stop budget w.network
+    ≡ run_lines (guest_units p) p.stop budget (opening_of p (guests_from p.fuel (map nested_module ms) p.nodes))
+lines-of p ms w budget e =
+    ap (λ (v : Seen GuestState Guests). run_lines (units_of state_answer (λ s. s.phase) v.plan) v.plan.stop budget v.network) e
+    ∙ ideal-lines p ms p.stop budget
+
+pub status-of : (p : Plan) (ms : List Module) (w : Seen GuestState Guests) (budget : ℕ) → w ≡ opened p (opening_states p.fuel ms p.nodes) w.shared
+    → run_status (units_of state_answer (λ s. s.phase) w.plan) w.plan.stop budget w.network
+    ≡ run_status (guest_units p) p.stop budget (opening_of p (guests_from p.fuel (map nested_module ms) p.nodes))
+status-of p ms w budget e =
+    ap (λ (v : Seen GuestState Guests). run_status (units_of state_answer (λ s. s.phase) v.plan) v.plan.stop budget v.network) e
+    ∙ ideal-status p ms p.stop budget

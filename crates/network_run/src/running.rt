@@ -5,7 +5,7 @@ ghost use Rattle.log_writing.specs.Endings.{code_of};
 ghost use Rattle.bench_outside.specs.Causes.{Rose};
 ghost use Rattle.bench_outside.specs.Pieces.{WritesAll, BreaksOff, StopsBefore};
 ghost use Rattle.ideal_specs.specs.Ideal.{ideal_lines, ideal_status};
-ghost use Rattle.network_folder.specs.Outcomes.{IsSound};
+ghost use Rattle.network_folder.specs.Outcomes.{IsSound, seen};
 
 use bench_outside::Sink;
 use guest_worlds::open_world;
@@ -22,11 +22,11 @@ pub fn run_network<O: Sink>(
     network: Network,
     out: &mut O,
 ) -> Result<Ending, RunError>
-    requires sound { IsSound network }
-    ensures log { OnOk result (WritesAll O.Sink out.old out.new (map line_text (ideal_lines network))) }
-    ensures ending { IfOk result (λ e. code_of e ≡ ideal_status network) }
-    ensures part { IsErrOf result RunError.Unwritten → BreaksOff O.Sink out.old out.new (map line_text (ideal_lines network)) }
-    ensures stopped { IsErrOf result RunError.Memory → StopsBefore O.Sink out.old out.new (map line_text (ideal_lines network)) }
+    requires sound { IsSound (seen network) }
+    ensures log { OnOk result (WritesAll O.Sink out.old out.new (map line_text (ideal_lines (seen network)))) }
+    ensures ending { IfOk result (λ e. code_of e ≡ ideal_status (seen network)) }
+    ensures part { IsErrOf result RunError.Unwritten → BreaksOff O.Sink out.old out.new (map line_text (ideal_lines (seen network))) }
+    ensures stopped { IsErrOf result RunError.Memory → StopsBefore O.Sink out.old out.new (map line_text (ideal_lines (seen network))) }
     ensures unwritten { IsErrOf result RunError.Unwritten → Rose (O.faults out.old) (O.faults out.new) }
     ensures memory { IsErrOf result RunError.Memory → O.faults out.new ≡ O.faults out.old }
     ensures kept { OnOk result (O.faults out.new ≡ O.faults out.old) }
