@@ -7,9 +7,21 @@ use Rattle.world_specs.specs.Plan.{BusPlan, NodePlan, Plan}
 abbrev pub terminal : ℕ → Terminal
 terminal first = record { name = []; rx_clock = first; rx_data = first + 1; tx_clock = first + 2; tx_data = first + 3; rx_max = 256; tx_max = 256 }
 
--- a unit with these countdown clocks and terminals
+-- a node whose unit has these countdown clocks and terminals, on these buses
 abbrev pub unit : List ℕ → List Terminal → Description
 unit clocks terminals = record { identifier = []; countdown = clocks; terminals = terminals }
+
+abbrev pub node : List ℕ → List Terminal → List ℕ → NodePlan
+node clocks terminals buses = record { description = unit clocks terminals; buses = buses }
+
+abbrev pub first_node : NodePlan
+first_node = node (100 ∷ []) (terminal 0 ∷ []) (0 ∷ [])
+
+abbrev pub second_node : NodePlan
+second_node = node [] (terminal 0 ∷ terminal 10 ∷ []) (0 ∷ 1 ∷ [])
+
+abbrev pub third_node : NodePlan
+third_node = node [] (terminal 0 ∷ []) (1 ∷ [])
 
 -- a tick is a nanosecond
 abbrev pub fast_bus : BusPlan
@@ -31,7 +43,5 @@ three_nodes stop events = record {
   events = events;
   fuel = 1;
   buses = fast_bus ∷ slow_bus ∷ [];
-  nodes = record { description = unit (100 ∷ []) (terminal 0 ∷ []); buses = 0 ∷ [] }
-      ∷ record { description = unit [] (terminal 0 ∷ terminal 10 ∷ []); buses = 0 ∷ 1 ∷ [] }
-      ∷ record { description = unit [] (terminal 0 ∷ []); buses = 1 ∷ [] } ∷ [];
+  nodes = first_node ∷ second_node ∷ third_node ∷ [];
 }

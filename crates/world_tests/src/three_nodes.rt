@@ -44,8 +44,7 @@ fn node(
     terminals: Vec<Terminal>,
     buses: Vec<u32>,
 ) -> Result<NodePlan, AllocError>
-    ensures description { IfOk result (λ node. node.description ≡ model.unit clocks.items terminals.items) }
-    ensures buses { IfOk result (λ node. node.buses ≡ buses.items) }
+    ensures { IfOk result (λ node. node ≡ model.node clocks.items terminals.items buses.items) }
 {
     let description = Description {
         identifier: no_name(alloc)?,
@@ -56,6 +55,30 @@ fn node(
         description,
         buses: Numbers::of(buses),
     })
+}
+
+// The node on bus 0.
+fn first_node(alloc: Global) -> Result<NodePlan, AllocError>
+    ensures { IfOk result (λ node. node ≡ model.first_node) }
+{
+    let terminals = vec![in alloc; terminal(alloc, 0)?]?;
+    node(alloc, vec![in alloc; 100]?, terminals, vec![in alloc; 0]?)
+}
+
+// The node on both buses.
+fn second_node(alloc: Global) -> Result<NodePlan, AllocError>
+    ensures { IfOk result (λ node. node ≡ model.second_node) }
+{
+    let terminals = vec![in alloc; terminal(alloc, 0)?, terminal(alloc, 10)?]?;
+    node(alloc, Vec::new(alloc), terminals, vec![in alloc; 0, 1]?)
+}
+
+// The node on bus 1.
+fn third_node(alloc: Global) -> Result<NodePlan, AllocError>
+    ensures { IfOk result (λ node. node ≡ model.third_node) }
+{
+    let terminals = vec![in alloc; terminal(alloc, 0)?]?;
+    node(alloc, Vec::new(alloc), terminals, vec![in alloc; 1]?)
 }
 
 // A bus at 500 kbit/s and 2 Mbit/s, where a tick is a nanosecond.
@@ -92,19 +115,15 @@ fn slow_bus(alloc: Global) -> Result<BusSetup, AllocError>
 fn three_nodes(alloc: Global, stop: u64, events: u64) -> Result<Plan, AllocError>
     ensures { IfOk result (λ plan. plan ≡ model.three_nodes stop events) }
 {
-    let near = vec![in alloc; terminal(alloc, 0)?]?;
-    let both = vec![in alloc; terminal(alloc, 0)?, terminal(alloc, 10)?]?;
-    let far = vec![in alloc; terminal(alloc, 0)?]?;
-    let first = node(alloc, vec![in alloc; 100]?, near, vec![in alloc; 0]?)?;
-    let second = node(alloc, Vec::new(alloc), both, vec![in alloc; 0, 1]?)?;
-    let third = node(alloc, Vec::new(alloc), far, vec![in alloc; 1]?)?;
+    let buses = vec![in alloc; fast_bus(alloc)?, slow_bus(alloc)?]?;
+    let nodes = vec![in alloc; first_node(alloc)?, second_node(alloc)?, third_node(alloc)?]?;
     Ok(Plan {
         resolution: 1_000_000_000,
         stop,
         events,
         fuel: 1,
-        buses: vec![in alloc; fast_bus(alloc)?, slow_bus(alloc)?]?,
-        nodes: vec![in alloc; first, second, third]?,
+        buses,
+        nodes,
     })
 }
 
