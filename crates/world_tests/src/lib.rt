@@ -2,10 +2,4 @@
 #![tactic(auto)]
 
 #[cfg(test)]
-mod logs;
-#[cfg(test)]
-mod replies;
-#[cfg(test)]
 mod tests;
-#[cfg(test)]
-mod three_nodes;
