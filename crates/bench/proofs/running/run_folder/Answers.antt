@@ -1,0 +1,65 @@
+use Rattle.std.proofs.Common.{rules, ◌≡◌, ℕ, List, [], sym, ap, ◌∙◌, refl, inl, inr, map, subst}
+use Rattle.std.specs.Prelude.{Ok, Err, Contains}
+use Rattle.log_specs.specs.Line.{line_text}
+use Rattle.bench_outside.specs.Pieces.{WritesAll, BreaksOff, StopsBefore}
+use Rattle.bench_outside.specs.PieceSteps.{stops_untouched, writes_nothing}
+use Rattle.bench_outside.specs.declared.refusal.FileId.{FileId}
+use Rattle.network_folder.specs.declared.error.NetError.TheVariants as answer
+use Rattle.network_folder.specs.Outcomes.{file_id, name_in, network_in, outcome_of, seen, whole}
+use Rattle.ideal_specs.specs.Ideal.{ideal_lines, ideal_status}
+use Rattle.bench.specs.declared.status.Status.TheVariants.{Refused, Unwritten, Memory, Unread}
+use Rattle.bench.specs.Running.{asked_of, network_lines, network_status, run_deed}
+use Rattle.bench.proofs.Asked.{is-asked}
+use Rattle.bench.proofs.Ran.{answers-as, writes-as, unread_is}
+use Rattle.bench.proofs.running.run_folder.Goals as goal
+
+pub returns-in-Ok-clause-carried : goal.returns-in-Ok-clause-carried
+returns-in-Ok-clause-carried g c held h =
+    let net = c.args.net.now in
+    let found = c.in-Ok.ensures.found held h in
+    let status = ap (λ r. network_status (outcome_of r)) found in
+    let lines = ap (λ r. network_lines (outcome_of r)) found in (
+      run_deed net held,
+      refl,
+      record {
+        answer = answers-as c.run_read.result _ _ (sym status) c.run_read.ensures.answer;
+        whole = writes-as g.O.Sink c.args.out.now c.run_read.new.out c.run_read.result _ _ (sym lines) c.run_read.ensures.whole;
+        broken = λ e. subst (BreaksOff g.O.Sink c.args.out.now c.run_read.new.out) (sym lines) (c.run_read.ensures.broken e);
+        stopped = λ e. subst (StopsBefore g.O.Sink c.args.out.now c.run_read.new.out) (sym lines) (c.run_read.ensures.stopped e);
+        named = λ id e. absurd (c.run_read.ensures.read id e);
+      },
+    )
+
+pub returns-in-Err-Refused-clause-carried : goal.returns-in-Err-Refused-clause-carried
+returns-in-Err-Refused-clause-carried g c held h =
+    let net = c.args.net.now in
+    let refused = c.read_network.ensures.refused _ held (c.in-Err-Refused.is ∙ ap (λ x. Err x) c.in-Err-Refused.field-0-is) h in
+    let status = ap network_status refused in
+    let lines = ap network_lines refused in (
+      run_deed net held,
+      refl,
+      record {
+        answer = inr (sym (status ∙ ap (λ x. Refused x) (search rules)));
+        whole = inr (subst (WritesAll g.O.Sink c.args.out.now c.args.out.now) (sym lines) (writes_nothing g.O.Sink c.args.out.now));
+        broken = λ e. absurd cc;
+        stopped = λ e. absurd cc;
+        named = λ id e. absurd cc;
+      },
+    )
+
+pub returns-in-Err-Unread-clause-carried : goal.returns-in-Err-Unread-clause-carried
+returns-in-Err-Unread-clause-carried g c held h =
+    let net = c.args.net.now in
+    let file = c.read_network.ensures.unread _ held (c.in-Err-Unread.is ∙ ap (λ x. Err x) c.in-Err-Unread.field-0-is) h in (
+      run_deed net held,
+      refl,
+      record {
+        answer = inl tt;
+        whole = inl tt;
+        broken = λ e. absurd cc;
+        stopped = λ e. absurd cc;
+        named = λ id e.
+            let same : c.in-Err-Unread.file ≡ id = (search rules) ∙ unread_is _ id e in
+            subst (λ x. Contains (asked_of held net) (x, (g.H.Shelf.read_faults c.read_network.new.shelf).last)) (sym file.1 ∙ same) (is-asked held net file.0 _ file.2 file.3);
+      },
+    )
