@@ -1,12 +1,13 @@
 //! The command `run`.
 ghost use Rattle.std.specs.Prelude.{◌≡◌, ◌≢◌, ◌⊎◌, ℕ, List, Some, map};
 ghost use Rattle.log_specs.specs.Line.{line_text};
-ghost use Rattle.network_specs.specs.Networks.{network_file_name};
+ghost use Rattle.wasm_types.specs.Modules.{NestedModule};
+ghost use Rattle.network_specs.specs.Networks.{Network as network, network_file_name};
 ghost use Rattle.network_folder.specs.Outcomes.{IsSound, seen};
-ghost use Rattle.ideal_specs.specs.Ideal.{ideal_lines, ideal_status};
+ghost use Rattle.ideal_specs.specs.Ideal.{ideal_lines, ideal_log, ideal_status};
 ghost use Rattle.bench_outside.specs.Shelf.{Contents};
 ghost use Rattle.bench_outside.specs.Causes.{Rose};
-ghost use Rattle.bench_outside.specs.Pieces.{WritesAll, BreaksOff, StopsBefore};
+ghost use Rattle.bench_outside.specs.Pieces.{joined, WritesAll, BreaksOff, StopsBefore};
 ghost use Rattle.bench_outside.specs.declared.refusal.FileId.{FileId};
 ghost use Rattle.bench_outside.specs.declared.refusal.Refusal.{Refusal};
 ghost use Rattle.bench.specs.Statuses.{WritesNothing};
@@ -21,6 +22,11 @@ use log_writing::{Ending, RunError};
 use network_folder::{NetError, Network, read_network};
 use network_run::run_network;
 use std::alloc::Global;
+
+/// The lines of an ideal run, one behind the other, are its log.
+pub fn the_lines_of_a_run_are_its_log()
+    ensures { (n : network NestedModule) → joined (map line_text (ideal_lines n)) ≡ ideal_log n }
+{}
 
 /// Writes the log of the network of a folder.
 pub(crate) fn run_folder<H: Shelf, O: Sink>(

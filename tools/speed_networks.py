@@ -1,0 +1,62 @@
+#!/usr/bin/env python3
+"""Measures how long the program takes for networks of 32 nodes on 4 buses, and how much memory.
+
+    speed_networks.py [PROGRAM]
+
+Eight nodes on each bus send a frame of eight bytes each at a period of their own, at a load of about a sixth of a bus of
+500,000 bit/s, for 6 and for 60 seconds. A line tells the events, the least processor time of some runs, microseconds
+an event, and the greatest memory.
+"""
+import os
+import subprocess
+import sys
+import tempfile
+
+HERE = os.path.dirname(os.path.realpath(__file__))
+sys.path.insert(0, os.path.join(HERE, "compare"))
+import kit_guests  # noqa: E402
+import operations  # noqa: E402
+from folder_text import Network, Unit  # noqa: E402
+
+RUNS = 3
+
+
+def network(seconds):
+    """Four buses of eight senders each; periods of about ten milliseconds that don't fall together."""
+    made = Network(10 ** 9, seconds * 10 ** 9, events=10 ** 8)
+    for bus in range(4):
+        made.bus(500000)
+    for node in range(32):
+        text = b"%03x#%016x" % (0x100 + node, node * 0x0123456789abcd % 2 ** 64)
+        period = 100000 + 173 * node  # in ten-millionths of a second
+        unit = Unit(f"unit_{node}", kit_guests.sender(operations.transmit(text), period, 10 ** 7), 1, True)
+        made.node(unit, node % 4)
+    return made
+
+
+def took(program, folder):
+    """Seconds of processor time of a run, and the greatest memory of it in MiB."""
+    child = subprocess.Popen([program, "run", folder], stdout=subprocess.DEVNULL, stderr=subprocess.DEVNULL)
+    _, _, used = os.wait4(child.pid, 0)
+    return used.ru_utime + used.ru_stime, used.ru_maxrss // 1024
+
+
+def measure(program, seconds):
+    with tempfile.TemporaryDirectory() as folder:
+        network(seconds).write(folder)
+        runs = [took(program, folder) for _ in range(RUNS)]
+        log = subprocess.run([program, "run", folder], capture_output=True, check=False).stdout
+        last = log.splitlines()[-1].decode()
+        least, memory, events = min(runs)[0], max(run[1] for run in runs), int(last.split()[2])
+        print(f"{seconds} s of bus time: {last}, {len(log)} bytes of log, {least:.2f} s, "
+              f"{least / events * 1e6:.2f} microseconds an event, at most {memory} MiB", flush=True)
+
+
+def main():
+    program = os.path.realpath(sys.argv[1] if len(sys.argv) > 1 else os.path.join(HERE, "../crates/bench/out/bench"))
+    for seconds in (6, 60):
+        measure(program, seconds)
+
+
+if __name__ == "__main__":
+    main()
