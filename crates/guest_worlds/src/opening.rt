@@ -48,6 +48,6 @@ pub fn open_world(
     ensures { IfOk result (λ world. world ≡ opened plan (opening_states plan.fuel codes.items plan.nodes) world.shared) }
 {
     let mut shared = Guests::new(alloc)?;
-    let ecus = guests_of(alloc, &mut shared, plan.fuel / 2, codes, &plan.nodes)?;
+    let ecus = guests_of(alloc, &mut shared, plan.fuel, codes, &plan.nodes)?;
     World::new(alloc, plan, ecus, shared)
 }
