@@ -86,7 +86,6 @@ outcome_stops : {A B : Type 0} (r : Result A (Stop (ModuleRefusal BindError))) (
 outcome_stops (Ok x) f e h = absurd (cc h)
 outcome_stops (Err s) f e h = let same : answer_of s ≡ e = cc h in ap (λ x. Err x) same
 
-
 -- where a node is refused, all are
 pub nodes_refused : (holds : Option Contents) (held : Contents) (net : List ℕ) (nodes : List Node) (i : ℕ) (n : Node) (ps : List (NodeParts NestedModule)) (e : NetError) → holds ≡ Some held → i < length nodes → n ≡ get_or nodes i n
     → AreRead holds net (take i nodes) ps → outcome_of (node_parts_at judged_unit (whole held) net (length ps) n) ≡ Err e
@@ -186,8 +185,7 @@ module _ {H : Type 0} (shelf : shelf_ghosts H) where
             (subst (λ p. outcome_of (node_parts_at judged_unit (whole held) net p n) ≡ Err (answer.Refused r)) same k);
         unread = λ f held is held_is.
             let k = h.unread f held (again (answer.Unread f) is) (reads.holds ∙ held_is) in
-            let of : IsFileOfNode i k.0 = subst (λ p. IsFileOfNode p k.0) at k.2 in
-            (
+            let of : IsFileOfNode i k.0 = subst (λ p. IsFileOfNode p k.0) at k.2 in (
               k.0,
               k.1,
               not_main i k.0 of,

@@ -46,6 +46,7 @@ over file limit b e h = go (nat_lt limit (length b)) refl h
   where
     is_over : nat_lt limit (length b) ≡ true → limit < length b
     is_over t = grind (arith, nat_tests)
+
     go : (t : Bool) → nat_lt limit (length b) ≡ t → (if t then Err (answer.Refused (refusal file Size limit)) else Ok b) ≡ Err e → (limit < length b) × (e ≡ answer.Refused (refusal file Size limit))
     go true is k = (is_over is, cc k)
     go false is k = absurd (cc k)

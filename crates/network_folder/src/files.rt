@@ -55,7 +55,14 @@ pub(crate) fn read_main<H: Shelf>(
     ensures { ReadsFile H.Shelf shelf.old shelf.new digest.old digest.new FileId.Main (spec.network_file_name net.now) (λ f. f) file_said result }
 {
     let name = network_file_name(alloc, net)?;
-    let bytes = match fetch_file(alloc, shelf, FileId::Main, name.as_str(), TEXT_LIMIT, digest) {
+    let bytes = match fetch_file(
+        alloc,
+        shelf,
+        FileId::Main,
+        name.as_str(),
+        TEXT_LIMIT,
+        digest,
+    ) {
         Ok(bytes) => bytes,
         Err(error) => return Err(error),
     };

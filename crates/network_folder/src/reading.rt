@@ -18,11 +18,7 @@ use std::alloc::Global;
 
 /// The network of a folder, by the folder's name: its network file is read and checked whole, then for each node, in
 /// their order, its description, its terminals and its module. The first file that breaks a rule is the refusal.
-pub fn read_network<H: Shelf>(
-    alloc: Global,
-    shelf: &mut H,
-    net: &str,
-) -> Result<Network, NetError>
+pub fn read_network<H: Shelf>(alloc: Global, shelf: &mut H, net: &str) -> Result<Network, NetError>
     // Where the shelf tells what it holds: the network of the folder, or its first refusal.
     ensures found { IfOk result (λ n. (held : Contents) → H.holds shelf.old ≡ Some held → network_in (whole held) net.now ≡ Ok (seen n)) }
     ensures refused { (r : Refusal) (held : Contents) → result ≡ Err (NetError.Refused r) → H.holds shelf.old ≡ Some held

@@ -8,11 +8,7 @@ use std::alloc::{AllocError, Global};
 use world_core::{NodePlan, Plan};
 
 /// The plan of a network file with these nodes.
-pub fn plan_of(
-    alloc: Global,
-    file: &NetworkFile,
-    nodes: Vec<NodePlan>,
-) -> Result<Plan, AllocError>
+pub fn plan_of(alloc: Global, file: &NetworkFile, nodes: Vec<NodePlan>) -> Result<Plan, AllocError>
     requires nodes { length nodes.items < 2 ^ 32 }
     requires buses { length file.now.buses < 2 ^ 32 }
     ensures { IfOk result (λ plan. plan ≡ spec.plan_of file.now nodes.items) }

@@ -25,13 +25,13 @@ loop-code-preserved c =
     let ss = states_of ghosts es c.loop-code.shared in
     record {
       states = rw items (
-        ap (λ ss. ss ++ opening_states c.args.fuel c.pop_front.new.self.items (drop (length (es ++ e ∷ [])) c.args.nodes.now))
-        (states-more ghosts same_place (λ e s t here shares. same_state e s t shares) is_there es e c.loop-code.shared c.new.new.shared i.apart c.in_ok-new.ensures.fresh c.in_ok-new.ensures.others)
-        ∙ ap (λ x. (ss ++ x ∷ []) ++ opening_states c.args.fuel c.pop_front.new.self.items (drop (length (es ++ e ∷ [])) c.args.nodes.now)) state
-        ∙ ap (λ m. (ss ++ opening_state c.in-Some.code n.description c.args.fuel ∷ []) ++ opening_states c.args.fuel c.pop_front.new.self.items (drop m c.args.nodes.now)) (length-append es (e ∷ []))
-        ∙ one-more c.args.fuel c.in-Some.code c.pop_front.new.self.items c.args.nodes.now k n ss below here
-        ∙ ap (λ ms. ss ++ opening_states c.args.fuel ms (drop k c.args.nodes.now)) (sym front)
-        ∙ i.states);
+          ap (λ ss. ss ++ opening_states c.args.fuel c.pop_front.new.self.items (drop (length (es ++ e ∷ [])) c.args.nodes.now))
+          (states-more ghosts same_place (λ e s t here shares. same_state e s t shares) is_there es e c.loop-code.shared c.new.new.shared i.apart c.in_ok-new.ensures.fresh c.in_ok-new.ensures.others)
+          ∙ ap (λ x. (ss ++ x ∷ []) ++ opening_states c.args.fuel c.pop_front.new.self.items (drop (length (es ++ e ∷ [])) c.args.nodes.now)) state
+          ∙ ap (λ m. (ss ++ opening_state c.in-Some.code n.description c.args.fuel ∷ []) ++ opening_states c.args.fuel c.pop_front.new.self.items (drop m c.args.nodes.now)) (length-append es (e ∷ []))
+          ∙ one-more c.args.fuel c.in-Some.code c.pop_front.new.self.items c.args.nodes.now k n ss below here
+          ∙ ap (λ ms. ss ++ opening_states c.args.fuel ms (drop k c.args.nodes.now)) (sym front)
+          ∙ i.states);
       apart = rw items (apart-more ghosts same_place (λ e s t here shares. same_state e s t shares) is_there es e c.loop-code.shared c.new.new.shared i.apart c.in_ok-new.ensures.fresh c.in_ok-new.ensures.others c.in_ok-new.ensures.here);
       units = all-rest IsUnitCode c.in-Some.code c.pop_front.new.self.items (subst (All IsUnitCode) front i.units);
       each = search rules;

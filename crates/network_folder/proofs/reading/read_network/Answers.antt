@@ -34,7 +34,7 @@ returns-in-Err-read_nodes-clause-refused g c = λ r held is held_is.
     let same : c.in-Err-read_nodes.error ≡ Refused r = cc is in
     let nodes : c.deref.result.now ≡ c.in-Ok.file.nodes = c.deref.ensures.value ∙ ap (λ (f : NetworkFile). f.nodes) c.file.view_is in
     let known : network_file_of (held (network_file_name c.args.net.now)) ≡ Ok c.in-Ok.file =
-        ap network_file_of (sym (c.in-Ok.ensures.found.2 held held_is)) ∙ file_known c.in-Ok.ensures.found.0 c.in-Ok.file c.in-Ok.ensures.found.1 in
+    ap network_file_of (sym (c.in-Ok.ensures.found.2 held held_is)) ∙ file_known c.in-Ok.ensures.found.0 c.in-Ok.file c.in-Ok.ensures.found.1 in
     let k = c.in-Err-read_nodes.ensures.refused r held (ap (λ x. Err x) same) (c.in-Ok.ensures.reads.holds ∙ held_is) in
     some_node_refused held c.args.net.now c.in-Ok.file (Refused r) known (subst (λ (ns : List Node). outcome_of (each (node_parts_of judged_unit (whole held) c.args.net.now) [] ns) ≡ Err (Refused r)) nodes k)
 
@@ -43,7 +43,7 @@ returns-in-Err-read_nodes-clause-unread g c = λ file held is held_is.
     let same : c.in-Err-read_nodes.error ≡ Unread file = cc is in
     let nodes : c.deref.result.now ≡ c.in-Ok.file.nodes = c.deref.ensures.value ∙ ap (λ (f : NetworkFile). f.nodes) c.file.view_is in
     let known : network_file_of (held (network_file_name c.args.net.now)) ≡ Ok c.in-Ok.file =
-        ap network_file_of (sym (c.in-Ok.ensures.found.2 held held_is)) ∙ file_known c.in-Ok.ensures.found.0 c.in-Ok.file c.in-Ok.ensures.found.1 in
+    ap network_file_of (sym (c.in-Ok.ensures.found.2 held held_is)) ∙ file_known c.in-Ok.ensures.found.0 c.in-Ok.file c.in-Ok.ensures.found.1 in
     let k = c.in-Err-read_nodes.ensures.unread file held (ap (λ x. Err x) same) (c.in-Ok.ensures.reads.holds ∙ held_is) in
     let stops = subst (λ (ns : List Node). each (node_parts_of judged_unit (lacking held k.0) c.args.net.now) [] ns ≡ Err (unread k.0)) nodes k.3 in
     let named = subst (λ (ns : List Node). name_among held c.args.net.now ns k.0 ≡ Some (g.H.Shelf.read_faults c.read_nodes.new.shelf).last) nodes k.4 in
@@ -70,7 +70,7 @@ pub returns-clause-found : goal.returns-clause-found
 returns-clause-found g c = λ held held_is.
     let nodes : c.deref.result.now ≡ c.in-Ok.file.nodes = c.deref.ensures.value ∙ ap (λ (f : NetworkFile). f.nodes) c.file.view_is in
     let known : network_file_of (held (network_file_name c.args.net.now)) ≡ Ok c.in-Ok.file =
-        ap network_file_of (sym (c.in-Ok.ensures.found.2 held held_is)) ∙ file_known c.in-Ok.ensures.found.0 c.in-Ok.file c.in-Ok.ensures.found.1 in
+    ap network_file_of (sym (c.in-Ok.ensures.found.2 held held_is)) ∙ file_known c.in-Ok.ensures.found.0 c.in-Ok.file c.in-Ok.ensures.found.1 in
     let units = c.in-Ok-read_nodes.ensures.found in
     let read = subst (λ (ns : List Node). AreRead (g.H.Shelf.holds c.read_main.new.shelf) c.args.net.now ns units.parts) nodes units.read in
     let text = c.in-Ok.ensures.found in
@@ -78,7 +78,7 @@ returns-clause-found g c = λ held held_is.
     let digest = c.finalize.ensures (framed text.0 ++ flat_map framed_node units.parts) message in
     network_is held c.args.net.now c.in-Ok.file units.parts known (all_read (g.H.Shelf.holds c.read_main.new.shelf) held c.args.net.now c.in-Ok.file.nodes units.parts (c.in-Ok.ensures.reads.holds ∙ held_is) read)
     ∙ ap (λ n. Ok n) (rw (← (text.2 held held_is)) (same_network c.in-Ok.file text.0 units.parts c.in_ok-plan.plan c.in-Ok-read_nodes.units.plans.items (map nested_module c.in-Ok-read_nodes.units.codes.items) c.finalize.result c.in_ok-plan.ensures
-        units.are_plans units.are_codes digest))
+    units.are_plans units.are_codes digest))
 
 pub returns-clause-sound : goal.returns-clause-sound
 returns-clause-sound g c =
