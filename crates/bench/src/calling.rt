@@ -12,7 +12,6 @@ ghost use Rattle.bench.specs.Deed.{Deed, CarriedOut, Caused, IsFault};
 ghost use Rattle.bench.specs.Deeds.{Does};
 ghost use Rattle.bench.specs.Calling.{fault_refusal, call_status, call_lines};
 
-use crate::fetching::{FetchError, fetch};
 use crate::refusals::{refused, refused_at};
 use crate::status::Status;
 use crate::telling::{LIMIT, status_of, why_of};
@@ -24,6 +23,7 @@ use code_specs::Misfit;
 use module_report::ReportError;
 use std::alloc::Global;
 use wasm_validate::Invalid;
+use whole_files::{FetchError, fetch};
 
 /// Writes the line on a call of a function of a file's module.
 pub(crate) fn call_function<H: Shelf, O: Sink>(

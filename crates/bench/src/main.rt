@@ -8,7 +8,6 @@ ghost use Rattle.std.specs.IoError.{error_kind};
 
 mod calling;
 mod carrying;
-mod fetching;
 mod playing;
 mod refusals;
 mod reporting;

@@ -14,7 +14,6 @@ ghost use Rattle.bench.specs.Deed.{Deed, CarriedOut, Caused, IsFault};
 ghost use Rattle.bench.specs.Deeds.{Does};
 ghost use Rattle.bench.specs.Playing.{placed, status_of, lines_of, file_limit, event_budget};
 
-use crate::fetching::{FetchError, fetch};
 use crate::refusals::refused;
 use crate::status::Status;
 use bench_outside::{FileId, Shelf, Sink, Why};
@@ -22,6 +21,7 @@ use log_writing::{Ending, RunError};
 use play_file::{PlayError, read_play};
 use play_run::run;
 use std::alloc::Global;
+use whole_files::{FetchError, fetch};
 
 /// The greatest length of a file, in bytes.
 const LIMIT: u64 = 16_777_216;

@@ -13,7 +13,6 @@ ghost use Rattle.bench.specs.Deed.{Deed, CarriedOut, Caused, IsFault};
 ghost use Rattle.bench.specs.Deeds.{Does};
 ghost use Rattle.bench.specs.Telling.{error_status, why_of, read_status, read_lines};
 
-use crate::fetching::{FetchError, fetch};
 use crate::refusals::{refused, refused_at};
 use crate::status::Status;
 use bench_outside::{FileId, Shelf, Sink, Why};
@@ -21,6 +20,7 @@ use module_report::{ReportError, module_report};
 use std::alloc::Global;
 use wasm_reader::ReadError;
 use wasm_validate::{Invalid, Rule};
+use whole_files::{FetchError, fetch};
 
 /// The greatest length of a module's file, in bytes.
 pub(crate) const LIMIT: u64 = 4_194_304;

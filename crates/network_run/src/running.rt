@@ -34,5 +34,5 @@ pub fn run_network<O: Sink>(
 {
     let events = network.plan.events;
     let world = open_world(alloc, network.plan, network.codes)?;
-    run(alloc, world, events / 2, out)
+    run(alloc, world, events, out)
 }
