@@ -1,5 +1,9 @@
 ;; A memory without pages that grows up to three, and what its growing answers.
 ;; line: types 2 funcs 3 tables 0 memories 1 globals 0 exports 4 start - elems 0 datas 0 size 92
+;; call: pages 1 = value 0 left 0
+;; call: grow 2 3 = value 0 left 0
+;; call: grow 2 4 = value 4294967295 left 0
+;; call: grow 2 4294967295 = value 4294967295 left 0
 (module
   (memory (export "memory") 0 3)
   (func (export "pages") (result i32)
