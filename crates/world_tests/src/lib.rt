@@ -2,4 +2,10 @@
 #![tactic(auto)]
 
 #[cfg(test)]
+mod logs;
+#[cfg(test)]
+mod replies;
+#[cfg(test)]
 mod tests;
+#[cfg(test)]
+mod three_nodes;
