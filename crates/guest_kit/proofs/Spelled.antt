@@ -152,10 +152,26 @@ module _ (numbers opening : List ℕ) (n : length numbers ≤ 168) (o : length o
 
   last_spelled : SpellsSection (behind sections start) (Datas datas) last
   last_spelled =
-      let small = content_few in
-      (omega arith, (sized_text content, refl, (unsigned_text (length content), content, refl, u32_spelled (length content) (omega (arith, small)),
-      (unsigned_text 2, one ++ (two ++ []), refl, u32_spelled 2 (omega arith),
-      (one, two ++ [], refl, data_spelled 0 numbers at_first (omega (arith, n)), (two, [], refl, data_spelled 32768 opening at_second (omega (arith, o)), refl))))))
+      let small = content_few in (
+        omega arith,
+        (
+          sized_text content,
+          refl,
+          (
+            unsigned_text (length content),
+            content,
+            refl,
+            u32_spelled (length content) (omega (arith, small)),
+            (
+              unsigned_text 2,
+              one ++ (two ++ []),
+              refl,
+              u32_spelled 2 (omega arith),
+              (one, two ++ [], refl, data_spelled 0 numbers at_first (omega (arith, n)), (two, [], refl, data_spelled 32768 opening at_second (omega (arith, o)), refl)),
+            ),
+          ),
+        ),
+      )
 
   abbrev rest : List ℕ
   rest = found.text ++ last

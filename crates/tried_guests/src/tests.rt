@@ -10,9 +10,7 @@ use std::test::Fail;
 const TRANSMIT: [u8; 17] = [16, 0, 0, 0, 17, 0, 0, 0, 0x23, 1, 0, 0, 0, 0, 1, 0, 5];
 
 // A CAN FD transmit of 18 bytes: identifier 0x321, BRS, and one byte of data.
-const FD_TRANSMIT: [u8; 18] = [
-    17, 0, 0, 0, 18, 0, 0, 0, 0x21, 3, 0, 0, 0, 1, 0, 1, 0, 6,
-];
+const FD_TRANSMIT: [u8; 18] = [17, 0, 0, 0, 18, 0, 0, 0, 0x21, 3, 0, 0, 0, 1, 0, 1, 0, 6];
 
 // A Confirm of 12 bytes: identifier 0x123.
 const CONFIRM: [u8; 12] = [32, 0, 0, 0, 12, 0, 0, 0, 0x23, 1, 0, 0];
@@ -49,19 +47,67 @@ fn gives(reply: &Reply, expected: &[u8]) -> bool {
 }
 
 /// Whether a Tx_Clock ticks behind some calls.
-fn ticks_behind(alloc: Global, module: &[u8], clock: u32, call: Option<Call>) -> Result<Option<bool>, Fail> {
+fn ticks_behind(
+    alloc: Global,
+    module: &[u8],
+    clock: u32,
+    call: Option<Call>,
+) -> Result<Option<bool>, Fail> {
     let reply = match call {
-        Some(call) => last_reply(alloc, module, &[Call::Instantiate, Call::EnterInit, Call::ExitInit, call, Call::GetClock(clock)])?,
-        None => last_reply(alloc, module, &[Call::Instantiate, Call::EnterInit, Call::ExitInit, Call::GetClock(clock)])?,
+        Some(call) => last_reply(
+            alloc,
+            module,
+            &[
+                Call::Instantiate,
+                Call::EnterInit,
+                Call::ExitInit,
+                call,
+                Call::GetClock(clock),
+            ],
+        )?,
+        None => last_reply(
+            alloc,
+            module,
+            &[
+                Call::Instantiate,
+                Call::EnterInit,
+                Call::ExitInit,
+                Call::GetClock(clock),
+            ],
+        )?,
     };
     Ok(ticks(reply))
 }
 
 /// The bytes that come out at a Tx_Data behind some calls.
-fn given_behind(alloc: Global, module: &[u8], data: u32, call: Option<Call>) -> Result<Reply, Fail> {
+fn given_behind(
+    alloc: Global,
+    module: &[u8],
+    data: u32,
+    call: Option<Call>,
+) -> Result<Reply, Fail> {
     let reply = match call {
-        Some(call) => last_reply(alloc, module, &[Call::Instantiate, Call::EnterInit, Call::ExitInit, call, Call::GetBinary(data)])?,
-        None => last_reply(alloc, module, &[Call::Instantiate, Call::EnterInit, Call::ExitInit, Call::GetBinary(data)])?,
+        Some(call) => last_reply(
+            alloc,
+            module,
+            &[
+                Call::Instantiate,
+                Call::EnterInit,
+                Call::ExitInit,
+                call,
+                Call::GetBinary(data),
+            ],
+        )?,
+        None => last_reply(
+            alloc,
+            module,
+            &[
+                Call::Instantiate,
+                Call::EnterInit,
+                Call::ExitInit,
+                Call::GetBinary(data),
+            ],
+        )?,
     };
     Ok(reply)
 }
@@ -82,7 +128,13 @@ fn a_sender_tells_its_interval_at_first_and_at_each_tick(rt: HostRuntime) -> Res
     let expected = [Qualifier::Changed, Qualifier::Unchanged, Qualifier::Changed];
     for (count, expected) in [4, 5, 7].into_iter().zip(expected) {
         let reply = last_reply(alloc, module.as_slice(), &opening[..count])?;
-        let Reply::Interval { status: FmiStatus::Ok, counter: 10, resolution: 1000, qualifier } = reply else {
+        let Reply::Interval {
+            status: FmiStatus::Ok,
+            counter: 10,
+            resolution: 1000,
+            qualifier,
+        } = reply
+        else {
             return Err(Fail::from("interval"));
         };
         assert!(rt; qualifier == expected);
@@ -96,9 +148,18 @@ fn a_sender_emits_its_bytes_at_each_tick(rt: HostRuntime) -> Result<(), Fail> {
     let module = sender(alloc, &TRANSMIT, 10, 1000)?;
     let bytes = module.as_slice();
     assert_eq!(rt; ticks_behind(alloc, bytes, 2, None)?, Some(false));
-    assert_eq!(rt; ticks_behind(alloc, bytes, 2, Some(Call::SetClock(0)))?, Some(false));
-    assert_eq!(rt; ticks_behind(alloc, bytes, 2, Some(Call::SetClock(100)))?, Some(true));
-    assert_eq!(rt; ticks_behind(alloc, bytes, 6, Some(Call::SetClock(100)))?, Some(false));
+    assert_eq!(rt;
+        ticks_behind(alloc, bytes, 2, Some(Call::SetClock(0)))?,
+        Some(false)
+    );
+    assert_eq!(rt;
+        ticks_behind(alloc, bytes, 2, Some(Call::SetClock(100)))?,
+        Some(true)
+    );
+    assert_eq!(rt;
+        ticks_behind(alloc, bytes, 6, Some(Call::SetClock(100)))?,
+        Some(false)
+    );
     let reply = given_behind(alloc, bytes, 3, Some(Call::SetClock(100)))?;
     assert!(rt; gives(&reply, &TRANSMIT));
     Ok(())
@@ -128,8 +189,14 @@ fn what_was_given_is_not_given_again(rt: HostRuntime) -> Result<(), Fail> {
 fn a_listener_emits_nothing(rt: HostRuntime) -> Result<(), Fail> {
     let alloc = rt.alloc();
     let module = listener(alloc)?;
-    assert_eq!(rt; ticks_behind(alloc, module.as_slice(), 2, None)?, Some(false));
-    assert_eq!(rt; ticks_behind(alloc, module.as_slice(), 2, Some(mixed(alloc)?))?, Some(false));
+    assert_eq!(rt;
+        ticks_behind(alloc, module.as_slice(), 2, None)?,
+        Some(false)
+    );
+    assert_eq!(rt;
+        ticks_behind(alloc, module.as_slice(), 2, Some(mixed(alloc)?))?,
+        Some(false)
+    );
     Ok(())
 }
 
@@ -139,7 +206,10 @@ fn an_echo_emits_transmits_where_they_came(rt: HostRuntime) -> Result<(), Fail> 
     let module = echo(alloc)?;
     let mut expected = Vec::from_slice(alloc, &TRANSMIT)?;
     expected.extend_from_slice(&FD_TRANSMIT)?;
-    assert_eq!(rt; ticks_behind(alloc, module.as_slice(), 2, Some(mixed(alloc)?))?, Some(true));
+    assert_eq!(rt;
+        ticks_behind(alloc, module.as_slice(), 2, Some(mixed(alloc)?))?,
+        Some(true)
+    );
     let reply = given_behind(alloc, module.as_slice(), 3, Some(mixed(alloc)?))?;
     assert!(rt; gives(&reply, expected.as_slice()));
     Ok(())
@@ -151,12 +221,21 @@ fn a_gateway_emits_transmits_at_the_other_terminal(rt: HostRuntime) -> Result<()
     let module = gateway(alloc)?;
     let mut expected = Vec::from_slice(alloc, &TRANSMIT)?;
     expected.extend_from_slice(&FD_TRANSMIT)?;
-    assert_eq!(rt; ticks_behind(alloc, module.as_slice(), 2, Some(mixed(alloc)?))?, Some(false));
-    assert_eq!(rt; ticks_behind(alloc, module.as_slice(), 6, Some(mixed(alloc)?))?, Some(true));
+    assert_eq!(rt;
+        ticks_behind(alloc, module.as_slice(), 2, Some(mixed(alloc)?))?,
+        Some(false)
+    );
+    assert_eq!(rt;
+        ticks_behind(alloc, module.as_slice(), 6, Some(mixed(alloc)?))?,
+        Some(true)
+    );
     let reply = given_behind(alloc, module.as_slice(), 7, Some(mixed(alloc)?))?;
     assert!(rt; gives(&reply, expected.as_slice()));
     let other = Call::SetBinary(5, Bytes::of(Vec::from_slice(alloc, &TRANSMIT)?));
-    assert_eq!(rt; ticks_behind(alloc, module.as_slice(), 6, Some(other))?, Some(false));
+    assert_eq!(rt;
+        ticks_behind(alloc, module.as_slice(), 6, Some(other))?,
+        Some(false)
+    );
     Ok(())
 }
 
@@ -164,7 +243,10 @@ fn a_gateway_emits_transmits_at_the_other_terminal(rt: HostRuntime) -> Result<()
 fn a_flooder_emits_300_transmits_at_first(rt: HostRuntime) -> Result<(), Fail> {
     let alloc = rt.alloc();
     let module = flooder(alloc)?;
-    assert_eq!(rt; ticks_behind(alloc, module.as_slice(), 2, None)?, Some(true));
+    assert_eq!(rt;
+        ticks_behind(alloc, module.as_slice(), 2, None)?,
+        Some(true)
+    );
     let Reply::Data(FmiStatus::Ok, bytes) = given_behind(alloc, module.as_slice(), 3, None)? else {
         return Err(Fail::from("bytes"));
     };
