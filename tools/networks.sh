@@ -1,8 +1,9 @@
 #!/usr/bin/env bash
 # Runs the built program, or the one that is named, on each network of examples/networks and compares its log with the
-# one beside the folder. Assembles the text of each module with wat2wasm (Debian's package wabt) and compares it with
-# the module beside it; where wat2wasm isn't there, that is said. With the word `second` in place of a program, the logs
-# are those of tools/compare/folder.py.
+# one beside the folder. Each line of a file guests.txt names a unit and the words by which the program `guests` writes
+# its module: it is written again and compared. Assembles the text of each other module with wat2wasm (Debian's package
+# wabt) and compares it with the module beside it; where wat2wasm isn't there, that is said. With the word `second` in
+# place of a program, the logs are those of tools/compare/folder.py.
 set -eu
 here=$(realpath "$(dirname "$0")")
 if [ "${1:-}" = second ]; then
@@ -26,6 +27,17 @@ for net in */net.toml; do
   if ! run "$net" > "$folder/log" || ! cmp -s "$folder/log" "$net.log"; then
     fail "$net: the log differs"
   fi
+done
+guests="$here/../crates/guests/out/guests"
+for list in */guests.txt; do
+  while read -r unit words; do
+    # the words are split
+    if ! "$guests" $words > "$folder/module"; then
+      fail "$list: $unit isn't written"
+    elif ! cmp -s "$folder/module" "$(dirname "$list")/$unit/binaries/$unit.wasm"; then
+      fail "$list: the module of $unit is another one"
+    fi
+  done < "$list"
 done
 if ! command -v wat2wasm > /dev/null; then
   echo "networks: wat2wasm isn't there: the modules of examples/networks are not compared with their texts"

@@ -29,7 +29,7 @@ fn guest(
 ) -> Result<Vec<u8>, AllocError>
     requires answer { length answer.now ≤ 128 }
     requires opening { length opening.now ≤ 4800 }
-    ensures { IfOk result (λ bytes. bytes.items ≡ module_text (guest_module manner answer.now opening.now)) }
+    ensures bytes { IfOk result (λ bytes. bytes.items ≡ module_text (guest_module manner answer.now opening.now)) }
 {
     let numbers = manner.numbers(alloc, answer, opening)?;
     let mut builder = program(alloc)?;
@@ -49,21 +49,21 @@ pub fn sender(
     resolution: u64,
 ) -> Result<Vec<u8>, AllocError>
     requires { length op.now ≤ 128 }
-    ensures { IfOk result (λ bytes. bytes.items ≡ module_text (guest_module (spec.ticks counter resolution) op.now [])) }
+    ensures bytes { IfOk result (λ bytes. bytes.items ≡ module_text (guest_module (spec.ticks counter resolution) op.now [])) }
 {
     guest(alloc, ticks(counter, resolution), op, &[])
 }
 
 /// A guest that takes and emits nothing.
 pub fn listener(alloc: Global) -> Result<Vec<u8>, AllocError>
-    ensures { IfOk result (λ bytes. bytes.items ≡ module_text (guest_module spec.listens [] [])) }
+    ensures bytes { IfOk result (λ bytes. bytes.items ≡ module_text (guest_module spec.listens [] [])) }
 {
     guest(alloc, listens(), &[], &[])
 }
 
 /// A guest that emits at terminal 0 each CAN or CAN FD transmit that it receives there.
 pub fn echo(alloc: Global) -> Result<Vec<u8>, AllocError>
-    ensures { IfOk result (λ bytes. bytes.items ≡ module_text (guest_module echoes [] [])) }
+    ensures bytes { IfOk result (λ bytes. bytes.items ≡ module_text (guest_module echoes [] [])) }
 {
     let manner = Manner {
         forwards: true,
@@ -74,7 +74,7 @@ pub fn echo(alloc: Global) -> Result<Vec<u8>, AllocError>
 
 /// A guest that emits at terminal 1 each CAN or CAN FD transmit that it receives at terminal 0.
 pub fn gateway(alloc: Global) -> Result<Vec<u8>, AllocError>
-    ensures { IfOk result (λ bytes. bytes.items ≡ module_text (guest_module passes_on [] [])) }
+    ensures bytes { IfOk result (λ bytes. bytes.items ≡ module_text (guest_module passes_on [] [])) }
 {
     let manner = Manner {
         forwards: true,
@@ -86,7 +86,7 @@ pub fn gateway(alloc: Global) -> Result<Vec<u8>, AllocError>
 
 /// A guest that emits 300 CAN transmits of the base identifier 0x7FF, without data, in its first session.
 pub fn flooder(alloc: Global) -> Result<Vec<u8>, AllocError>
-    ensures { IfOk result (λ bytes. bytes.items ≡ module_text (guest_module spec.listens [] flood)) }
+    ensures bytes { IfOk result (λ bytes. bytes.items ≡ module_text (guest_module spec.listens [] flood)) }
 {
     let opening = TRANSMIT.repeat(alloc, 300)?;
     guest(alloc, listens(), &[], opening.as_slice())
@@ -95,7 +95,7 @@ pub fn flooder(alloc: Global) -> Result<Vec<u8>, AllocError>
 /// A guest that emits Sleep in its first session, and these bytes each time that it receives a wakeup: at most 128 bytes.
 pub fn sleeper(alloc: Global, op: &[u8]) -> Result<Vec<u8>, AllocError>
     requires { length op.now ≤ 128 }
-    ensures { IfOk result (λ bytes. bytes.items ≡ module_text (guest_module wakes op.now (spell Sleep))) }
+    ensures bytes { IfOk result (λ bytes. bytes.items ≡ module_text (guest_module wakes op.now (spell Sleep))) }
 {
     let manner = Manner {
         wakes: true,

@@ -4,10 +4,12 @@
 mod bodies;
 mod description;
 mod guests;
+mod laws;
 mod manner;
 mod program;
 
 pub use description::description_of;
+pub use laws::{guests_are_read_back, guests_are_units};
 pub use guests::{echo, flooder, gateway, listener, sender, sleeper};
 
 #[cfg(test)]
