@@ -1,8 +1,8 @@
 #!/usr/bin/env python3
-"""WebAssembly modules, and the first rule of validity that fails in each, after the core specification 1.0, section 3.
+"""WebAssembly modules, and the first rule of validity that fails in each, after WebAssembly Core 1.0, section 3.
 
 Each row is written out by hand, with the rule and a mark before the instruction that breaks it; `first_failing` finds
-the same once more, after the algorithm of the specification's appendix (7.3), and both must agree. Nothing is taken from
+the same once more, after the algorithm of the standard's appendix (7.3), and both must agree. Nothing is taken from
 the Rattle crates. Run in this folder: it writes the table bodies.txt and the same rows for the test of the crate
 body_table, ../crates/body_table/src/bodies_table.rt.
 """

@@ -1,5 +1,5 @@
 #!/usr/bin/env python3
-"""Integer instructions of WebAssembly on telling operands, after the core specification 1.0, section 4.3.2.
+"""Integer instructions of WebAssembly on telling operands, after WebAssembly Core 1.0, section 4.3.2.
 
 Each operation is worked out on Python's integers from the standard's text: division and remainder by the
 mathematical quotient, shifts, rotations and counts on the written-out bits. Nothing is taken from the Rattle crates.

@@ -1,4 +1,4 @@
-"""Runs WebAssembly functions with a budget: one unit for each instruction that begins (docs/MEANING.md)."""
+"""Runs WebAssembly functions with a budget: one unit for each instruction that begins (docs/MACHINE.md)."""
 import sys
 
 import machine_steps

@@ -1,4 +1,4 @@
-"""Units that answer from a list, and what one session calls of them, after FMI 3.0 (docs/UNITS.md)."""
+"""Units that answer from a list, and what one session calls of them, after FMI 3.0 (docs/SESSIONS.md)."""
 from collections import namedtuple
 
 MOST_ITERATIONS = 16
