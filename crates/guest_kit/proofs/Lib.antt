@@ -1,3 +1,6 @@
+mod Ascii
 mod Bytes
+mod Cloned
 mod Documents
 mod Spelled
+mod Valid

@@ -1,5 +1,5 @@
 -- The program is spelled by some bytes, whatever its memory holds.
-use Rattle.std.proofs.Common.{◌≡◌, ℕ, zero, suc, ◌+◌, ◌<◌, ◌≤◌, ◌^◌, Bool, true, false, List, [], ◌∷◌, ◌++◌, length, Ok, refl, sym, ap, subst, ◌∙◌, arith, length-append, append-nil, append-assoc, pos}
+use Rattle.std.proofs.Common.{◌≡◌, ℕ, zero, suc, ◌+◌, ◌<◌, ◌≤◌, ◌^◌, Bool, true, false, List, [], ◌∷◌, ◌++◌, length, Ok, refl, sym, ap, subst, ◌∙◌, arith, length-append, append-nil, append_assoc, pos}
 use Rattle.std.specs.Prelude.{if◌then◌else◌}
 use Rattle.std.specs.Str.{is_utf8, chars}
 use Rattle.std.specs.Char.{encode_utf8}
@@ -14,7 +14,7 @@ use Rattle.wasm_types.specs.declared.module.Data.{Data}
 use Rattle.wasm_types.specs.declared.module.Module.{Module}
 use Rattle.wasm_types.specs.Modules.{NestedFunc, flat_module}
 use Rattle.module_specs.specs.Spelling.{SpellsByte, SpellsU32, SpellsEach, SpellsVector}
-use Rattle.module_specs.specs.ModuleSpelling.{SpellsConstant, SpellsData, Section, Types, Funcs, Memories, Exports, Codes, Datas, Before, start, after, SpellsSection, SpellsSections, magic, version, most_bytes}
+use Rattle.module_specs.specs.ModuleSpelling.{SpellsConstant, SpellsData, Section, Types, Funcs, Memories, Exports, Codes, Datas, Before, start, after, SpellsSection, SpellsSections, SpellsModule, magic, version, most_bytes}
 use Rattle.module_specs.specs.Reading.{byte_at, u32_at, s32_at, s64_at, zero_at, each_at, vector_at, sized_at, name_at, type_at, block_type_at}
 use Rattle.module_specs.specs.CodeReading.{token_at, code_from, runs_at, locals_at, content_at, body_at}
 use Rattle.module_specs.specs.ModuleReading.{func_type_at, limits_at, table_at, constant_at, global_at, export_at, offset_at, element_at, data_at, imports_at, custom_at, bodies_at, codes_at, section_at, sections_at}
@@ -32,16 +32,16 @@ use Rattle.guest_kit.proofs.Bytes.{section_bytes}
 
 -- ---- the sections of the program
 
-abbrev indices : List ℕ
+abbrev pub indices : List ℕ
 indices = 1 ∷ 0 ∷ 2 ∷ 2 ∷ 1 ∷ 1 ∷ 0 ∷ 1 ∷ 3 ∷ 4 ∷ 5 ∷ 6 ∷ []
 
-abbrev one_page : List Limits
+abbrev pub one_page : List Limits
 one_page = program.memories
 
-abbrev sections : List Section
+abbrev pub sections : List Section
 sections = Types types ∷ Funcs indices ∷ Memories one_page ∷ Exports exports ∷ Codes functions ∷ []
 
-abbrev size : ℕ
+abbrev pub size : ℕ
 size = length section_bytes
 
 sections_are_read : sections_at size start section_bytes 0 ≡ Ok (sections, size)
@@ -51,12 +51,12 @@ sections_are_read = refl
 sections_fit : IsBytes section_bytes
 sections_fit = bytes_of_all section_bytes (All-from_recursion (λ b. b < 256) section_bytes (search arith))
 
-record Found : Type 0 where
+pub record Found : Type 0 where
   pub text : List ℕ
   pub spelled : SpellsSections start sections text
   pub length : length text ≡ size
 
-found : Found
+pub found : Found
 found =
     let h = sections_here tell size start section_bytes sections_fit 0 size sections (omega arith) (omega arith) sections_are_read in
     record { text = h.0; spelled = h.3; length = omega (arith, h.1.size) }
@@ -71,7 +71,7 @@ appended : (xs : List Section) (s : Before) (text : List ℕ) (y : Section) (mor
     → SpellsSections s (xs ++ y ∷ []) (text ++ more)
 appended [] s text y more t last = subst (λ l. SpellsSections s (y ∷ []) (l ++ more)) (sym t) (more, [], sym (append-nil more), last, refl)
 appended (x ∷ xs) s text y more t last =
-    (t.0, t.1 ++ more, ap (λ l. l ++ more) t.2 ∙ append-assoc t.0 t.1 more, t.3, appended xs (after x s) t.1 y more t.4 last)
+    (t.0, t.1 ++ more, ap (λ l. l ++ more) t.2 ∙ append_assoc t.0 t.1 more, t.3, appended xs (after x s) t.1 y more t.4 last)
 
 -- ---- data
 
@@ -105,11 +105,12 @@ at_second = (0x41 ∷ signed_text (pos 32768), 0x0B ∷ [], refl, (pos 32768, re
 at_most : {A : Type 0} (is_narrow : A → Bool) (low : A → ℕ) (high : A → A) (most : ℕ) (n : A) → length (shortest is_narrow low high most n) ≤ most
 unfolding shortest
 at_most is_narrow low high zero n = omega arith
-at_most is_narrow low high (suc most) n = by_test (is_narrow n)
+at_most is_narrow low high (suc most) n = by_test (is_narrow n) (at_most is_narrow low high most (high n))
   where
-    by_test : (t : Bool) → length (if t then low n ∷ [] else ((128 + low n) ∷ shortest is_narrow low high most (high n))) ≤ suc most
-    by_test true = omega arith
-    by_test false = let rest = at_most is_narrow low high most (high n) in omega (arith, rest)
+    by_test : (t : Bool) → length (shortest is_narrow low high most (high n)) ≤ most
+        → length (if t then low n ∷ [] else ((128 + low n) ∷ shortest is_narrow low high most (high n))) ≤ suc most
+    by_test true rest = omega arith
+    by_test false rest = omega (arith, rest)
 
 few : (n : ℕ) → length (unsigned_text n) ≤ 10
 few n = at_most is_narrow_unsigned low_unsigned high_unsigned 10 n
@@ -131,23 +132,23 @@ data_few at bytes = omega (arith, length-append (constant_text (constant at)) (s
 -- ---- the module
 
 module _ (numbers opening : List ℕ) (n : length numbers ≤ 168) (o : length opening ≤ 4800) where
-  abbrev datas : List Data
+  abbrev pub datas : List Data
   datas = segment_at 0 numbers ∷ segment_at 32768 opening ∷ []
 
-  abbrev content : List ℕ
+  abbrev pub content : List ℕ
   content = vector_text data_text datas
 
-  abbrev one : List ℕ
+  abbrev pub one : List ℕ
   one = data_text (segment_at 0 numbers)
 
-  abbrev two : List ℕ
+  abbrev pub two : List ℕ
   two = data_text (segment_at 32768 opening)
 
   content_few : length content ≤ 6000
   content_few =
       omega (arith, n, o, length-append (unsigned_text 2) (one ++ (two ++ [])), few 2, length-append one (two ++ []), length-append two [], data_few 0 numbers, data_few 32768 opening, first_few, second_few)
 
-  abbrev last : List ℕ
+  abbrev pub last : List ℕ
   last = section_text kind.Data content
 
   last_spelled : SpellsSection (behind sections start) (Datas datas) last
@@ -173,16 +174,28 @@ module _ (numbers opening : List ℕ) (n : length numbers ≤ 168) (o : length o
         ),
       )
 
-  abbrev rest : List ℕ
+  abbrev pub rest : List ℕ
   rest = found.text ++ last
 
   rest_few : length (magic ++ (version ++ rest)) ≤ most_bytes
   rest_few = omega (arith, found.length, length-append found.text last, sized_few content, content_few)
 
-  pub with_memory : (m : Module) → m ≡ flat_module (record program { datas = datas }) → IsSpelled m
-  with_memory m is = record {
-    nested = record program { datas = datas };
-    flat = is;
-    bytes = magic ++ (version ++ rest);
-    spelled = (rest_few, (rest, refl, (sections ++ Datas datas ∷ [], refl, refl, appended sections start found.text (Datas datas) last found.spelled last_spelled)));
-  }
+  abbrev pub bytes : List ℕ
+  bytes = magic ++ (version ++ rest)
+
+  pub with_memory : SpellsModule (record program { datas = datas }) bytes
+  with_memory = (rest_few, (rest, refl, (sections ++ Datas datas ∷ [], refl, refl, appended sections start found.text (Datas datas) last found.spelled last_spelled)))
+
+module _ (m : Manner) (answer opening : List ℕ) (a : length answer ≤ 128) (o : length opening ≤ 4800) where
+  pub numbers_few : length (numbers_of m answer opening) ≤ 168
+  numbers_few = omega (arith, a)
+
+  -- the module of a guest is spelled by some bytes
+  abbrev pub guest_bytes : List ℕ
+  guest_bytes = bytes (numbers_of m answer opening) opening numbers_few o
+
+  pub guest_spelled : SpellsModule (guest_module m answer opening) guest_bytes
+  guest_spelled = with_memory (numbers_of m answer opening) opening numbers_few o
+
+  pub guest_is_spelled : (made : Module) → made ≡ flat_module (guest_module m answer opening) → IsSpelled made
+  guest_is_spelled made is = record { nested = guest_module m answer opening; flat = is; bytes = guest_bytes; spelled = guest_spelled }
