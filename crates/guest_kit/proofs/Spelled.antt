@@ -12,14 +12,14 @@ use Rattle.wasm_types.specs.declared.module.Limits.{Limits}
 use Rattle.wasm_types.specs.declared.module.Constant.{Constant}
 use Rattle.wasm_types.specs.declared.module.Data.{Data}
 use Rattle.wasm_types.specs.declared.module.Module.{Module}
-use Rattle.wasm_types.specs.Modules.{NestedFunc, flat_module}
+use Rattle.wasm_types.specs.Modules.{flat_module}
 use Rattle.module_specs.specs.Spelling.{SpellsByte, SpellsU32, SpellsEach, SpellsVector}
 use Rattle.module_specs.specs.ModuleSpelling.{SpellsConstant, SpellsData, Section, Types, Funcs, Memories, Exports, Codes, Datas, Before, start, after, SpellsSection, SpellsSections, SpellsModule, magic, version, most_bytes}
 use Rattle.module_specs.specs.Reading.{byte_at, u32_at, s32_at, s64_at, zero_at, each_at, vector_at, sized_at, name_at, type_at, block_type_at}
 use Rattle.module_specs.specs.CodeReading.{token_at, code_from, runs_at, locals_at, content_at, body_at}
 use Rattle.module_specs.specs.ModuleReading.{func_type_at, limits_at, table_at, constant_at, global_at, export_at, offset_at, element_at, data_at, imports_at, custom_at, bodies_at, codes_at, section_at, sections_at}
 use Rattle.module_specs.proofs.Sections.{sections_here}
-use Rattle.wasm_writer.specs.Texts.{each_text, vector_text, sized_text}
+use Rattle.wasm_writer.specs.Texts.{vector_text, sized_text}
 use Rattle.wasm_writer.specs.ModuleTexts.{constant_text, data_text, section_text}
 use Rattle.wasm_writer.specs.Building.{segment_at}
 use Rattle.wasm_writer.specs.Shortest.{IsSpelled}

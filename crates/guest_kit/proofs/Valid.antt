@@ -1,9 +1,8 @@
 -- The program is valid, and exports what is asked of a unit, whatever its memory holds.
-use Rattle.std.proofs.Common.{◌≡◌, ℕ, List, None, Ok, refl}
+use Rattle.std.proofs.Common.{◌≡◌, ℕ, List, None, refl}
 use Rattle.wasm_types.specs.Back.{code_of, nested_module}
 use Rattle.wasm_types.specs.Modules.{flat_module}
 use Rattle.code_specs.specs.Signatures.{opcode_signature, access_bytes, signature_of}
-use Rattle.code_specs.specs.Effects.{meaning_of, effect_of}
 use Rattle.code_specs.specs.Typing.{instr_type, type_of_func}
 use Rattle.code_specs.specs.Validity.{validity, IsValid}
 use Rattle.binding_specs.specs.Exports.{binding_fault}

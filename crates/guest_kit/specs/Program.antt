@@ -1,6 +1,5 @@
 -- The program that all guests run: what they do is told by what their memory holds at the beginning (docs/GUESTS.md).
-use Rattle.std.specs.Prelude.{◌≡◌, ℕ, List, [], ◌∷◌, None, Option, codes, pos, refl}
-use Rattle.wasm_types.specs.declared.instr.ValType.{ValType}
+use Rattle.std.specs.Prelude.{ℕ, List, [], ◌∷◌, None, codes, pos}
 use Rattle.wasm_types.specs.declared.instr.ValType.TheVariants.{I32, I64}
 use Rattle.wasm_types.specs.declared.instr.Instr.{Instr}
 use Rattle.wasm_types.specs.declared.instr.Instr.TheVariants.{Local, Access, I32Const, I64Const, Numeric, Br, BrIf, Call}

@@ -9,8 +9,8 @@ mod manner;
 mod program;
 
 pub use description::description_of;
-pub use laws::{guests_are_read_back, guests_are_units};
 pub use guests::{echo, flooder, gateway, listener, sender, sleeper};
+pub use laws::{guests_are_read_back, guests_are_units};
 
 #[cfg(test)]
 mod tests;

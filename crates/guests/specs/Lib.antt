@@ -1,2 +1,1 @@
--- The definitions of this crate.
-pub mod Words
+-- This crate has no definitions.

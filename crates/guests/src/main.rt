@@ -9,7 +9,6 @@
 //! 7 where memory or the output failed.
 #![tactic(auto)]
 
-mod making;
 mod words;
 
 use std::env;
@@ -32,7 +31,7 @@ fn main(rt: HostRuntime) -> ExitCode {
 fn written(rt: &HostRuntime) -> io::Result<bool> {
     let alloc = rt.alloc();
     let words = env::args(rt)?.skip(1).collect::<Vec<String>>(alloc)?;
-    let Some(file) = making::file_of(alloc, words.as_slice())? else {
+    let Some(file) = words::file_of(alloc, words.as_slice())? else {
         return Ok(false);
     };
     let mut out = rt.stdout();

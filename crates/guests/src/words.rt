@@ -1,17 +1,20 @@
-//! The guests that words ask for.
-ghost use Rattle.std.specs.Prelude.{◌≡◌, ◌≤◌, ◌-◌, ◌^◌, IfOk, IfSome, length, option_map, map, string_bytes};
-ghost use Rattle.wasm_writer.specs.ModuleTexts.{module_text};
-ghost use Rattle.guests.specs.Words.{guest_in, sender_in as sender_of, sleeper_in as sleeper_of, operation_in as operation_of, long_in as long_of, plain_in as plain_of};
+//! The modules and descriptions that words ask for.
+ghost use Rattle.std.specs.Prelude.{◌≤◌, IfOk, IfSome, length};
 
 use bus_ops::{Op, write_op};
 use can_frame::{Frame, Kind};
-use guest_kit::{echo, flooder, gateway, listener, sender, sleeper};
+use guest_kit::{description_of, echo, flooder, gateway, listener, sender, sleeper};
 use plain_text::number_in;
 use std::alloc::{AllocError, Global};
 
+// The identifier in each description.
+const IDENTIFIER: &str = "guest";
+
+// The most bytes that a guest emits at once: a frame takes 81 at most.
+const MOST: usize = 128;
+
 /// The bytes of the operation that transmits the frame of this text; None where it is none of a frame.
 fn operation_in(alloc: Global, text: &[u8]) -> Result<Option<Vec<u8>>, AllocError>
-    ensures value { IfOk result (λ o. option_map (λ v. v.items) o ≡ operation_of text.now) }
     ensures short { IfOk result (λ o. IfSome o (λ v. length v.items ≤ 128)) }
 {
     let Some(frame) = Frame::read(alloc, text)? else {
@@ -23,53 +26,62 @@ fn operation_in(alloc: Global, text: &[u8]) -> Result<Option<Vec<u8>>, AllocErro
     };
     let mut bytes = Vec::new(alloc);
     write_op(alloc, &mut bytes, &op)?;
+    if bytes.len() > MOST {
+        return Ok(None);
+    }
     Ok(Some(bytes))
 }
 
-fn long_in(word: &str) -> Option<u64>
-    ensures { result ≡ long_of word.now }
-{
+fn long_in(word: &str) -> Option<u64> {
     number_in(0, u64::MAX, word.as_bytes())
 }
 
-/// The words behind `sender`.
-fn sender_in(alloc: Global, words: &[String]) -> Result<Option<Vec<u8>>, AllocError>
-    ensures { IfOk result (λ o. option_map (λ v. v.items) o ≡ option_map module_text (sender_of (map string_bytes words.now))) }
-{
+/// FRAME COUNTER RESOLUTION
+fn sender_in(alloc: Global, words: &[String]) -> Result<Option<Vec<u8>>, AllocError> {
     let [frame, counter, resolution] = words else {
         return Ok(None);
     };
     let Some(op) = operation_in(alloc, frame.as_bytes())? else {
         return Ok(None);
     };
-    let Some(counter) = long_in(counter.as_str()) else {
-        return Ok(None);
-    };
-    let Some(resolution) = long_in(resolution.as_str()) else {
-        return Ok(None);
-    };
-    let module = sender(alloc, op.as_slice(), counter, resolution)?;
-    Ok(Some(module))
+    match (long_in(counter.as_str()), long_in(resolution.as_str())) {
+        (Some(counter), Some(resolution)) => {
+            Ok(Some(sender(alloc, op.as_slice(), counter, resolution)?))
+        }
+        _ => Ok(None),
+    }
 }
 
-/// The words behind `sleeper`.
-fn sleeper_in(alloc: Global, words: &[String]) -> Result<Option<Vec<u8>>, AllocError>
-    ensures { IfOk result (λ o. option_map (λ v. v.items) o ≡ option_map module_text (sleeper_of (map string_bytes words.now))) }
-{
+/// FRAME
+fn sleeper_in(alloc: Global, words: &[String]) -> Result<Option<Vec<u8>>, AllocError> {
     let [frame] = words else {
         return Ok(None);
     };
     let Some(op) = operation_in(alloc, frame.as_bytes())? else {
         return Ok(None);
     };
-    let module = sleeper(alloc, op.as_slice())?;
-    Ok(Some(module))
+    Ok(Some(sleeper(alloc, op.as_slice())?))
+}
+
+/// TERMINALS, or TERMINALS timer
+fn description_in(alloc: Global, words: &[String]) -> Result<Option<Vec<u8>>, AllocError> {
+    let (terminals, timer) = match words {
+        [terminals] => (terminals, false),
+        [terminals, word] if word.as_str() == "timer" => (terminals, true),
+        _ => return Ok(None),
+    };
+    let terminals = if terminals.as_str() == "1" {
+        1
+    } else if terminals.as_str() == "2" {
+        2
+    } else {
+        return Ok(None);
+    };
+    Ok(Some(description_of(alloc, IDENTIFIER, terminals, timer)?))
 }
 
 /// A guest of which nothing more is said.
-fn plain_in(alloc: Global, name: &str) -> Result<Option<Vec<u8>>, AllocError>
-    ensures { IfOk result (λ o. option_map (λ v. v.items) o ≡ option_map module_text (plain_of name.now)) }
-{
+fn plain_in(alloc: Global, name: &str) -> Result<Option<Vec<u8>>, AllocError> {
     let module = if name == "listener" {
         listener(alloc)?
     } else if name == "echo" {
@@ -84,22 +96,21 @@ fn plain_in(alloc: Global, name: &str) -> Result<Option<Vec<u8>>, AllocError>
     Ok(Some(module))
 }
 
-/// The module of the guest that the words ask for; None where they ask for none.
-pub fn module_in(alloc: Global, words: &[String]) -> Result<Option<Vec<u8>>, AllocError>
-    ensures { IfOk result (λ o. option_map (λ v. v.items) o ≡ option_map module_text (guest_in (map string_bytes words.now))) }
-{
-    let [name, words @ ..] = words else {
+/// The bytes of the module or of the description that the words ask for; None where they ask for neither.
+pub fn file_of(alloc: Global, words: &[String]) -> Result<Option<Vec<u8>>, AllocError> {
+    let [name, others @ ..] = words else {
         return Ok(None);
     };
     let name = name.as_str();
     if name == "sender" {
-        return sender_in(alloc, words);
-    }
-    if name == "sleeper" {
-        return sleeper_in(alloc, words);
-    }
-    match words {
-        [] => plain_in(alloc, name),
-        _ => Ok(None),
+        sender_in(alloc, others)
+    } else if name == "sleeper" {
+        sleeper_in(alloc, others)
+    } else if name == "description" {
+        description_in(alloc, others)
+    } else if others.is_empty() {
+        plain_in(alloc, name)
+    } else {
+        Ok(None)
     }
 }

@@ -1,7 +1,6 @@
 use Rattle.std.proofs.Common.{◌≡◌, ℕ, List, [], ◌∷◌, refl, ap, subst, ◌∙◌}
 use Rattle.std.specs.Prelude.{IfOk}
 use Rattle.std.specs.List.{repeat}
-use Rattle.std.proofs.lemmas.Slice.Zip.{AllZip-map}
 use Rattle.operation_specs.specs.Operation.{Transmit}
 use Rattle.operation_specs.specs.Spelling.{spell}
 use Rattle.wasm_writer.specs.ModuleTexts.{module_text}

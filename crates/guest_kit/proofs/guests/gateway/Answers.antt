@@ -1,4 +1,4 @@
-use Rattle.std.proofs.Common.{ℕ, [], true, subst}
+use Rattle.std.proofs.Common.{[], true, subst}
 use Rattle.std.specs.Prelude.{◌≡◌, IfOk}
 use Rattle.wasm_writer.specs.ModuleTexts.{module_text}
 use Rattle.guest_kit.specs.declared.manner.Manner.{Manner}

@@ -13,7 +13,7 @@ pub write_module-requires : goal.write_module-requires
 write_module-requires c =
     let numbers = c.as_slice.ensures.value ∙ c.in_ok-numbers.ensures in
     let first = c.in_ok-segment.ensures.ok ∙ ap (λ (n : List ℕ). with_segment (segment_at 0 n) c.in_ok-builder.builder) numbers
-        ∙ ap (with_segment (segment_at 0 (numbers_of c.args.manner c.args.answer.now c.args.opening.now))) c.in_ok-builder.ensures in
+    ∙ ap (with_segment (segment_at 0 (numbers_of c.args.manner c.args.answer.now c.args.opening.now))) c.in_ok-builder.ensures in
     let both = c.finish-module.ensures ∙ c.in_ok-segment-2.ensures.ok ∙ ap (with_segment (segment_at 32768 c.args.opening.now)) first in
     guest_is_spelled c.args.manner c.args.answer.now c.args.opening.now c.requires.answer c.requires.opening c.finish-module.result both
 
@@ -21,9 +21,9 @@ pub returns : goal.returns
 returns c =
     let numbers = c.as_slice.ensures.value ∙ c.in_ok-numbers.ensures in
     let first = c.in_ok-segment.ensures.ok ∙ ap (λ (n : List ℕ). with_segment (segment_at 0 n) c.in_ok-builder.builder) numbers
-        ∙ ap (with_segment (segment_at 0 (numbers_of c.args.manner c.args.answer.now c.args.opening.now))) c.in_ok-builder.ensures in
+    ∙ ap (with_segment (segment_at 0 (numbers_of c.args.manner c.args.answer.now c.args.opening.now))) c.in_ok-builder.ensures in
     let both : c.finish-module.result ≡ flat_module (guest_module c.args.manner c.args.answer.now c.args.opening.now)
-        = c.finish-module.ensures ∙ c.in_ok-segment-2.ensures.ok ∙ ap (with_segment (segment_at 32768 c.args.opening.now)) first in
+    = c.finish-module.ensures ∙ c.in_ok-segment-2.ensures.ok ∙ ap (with_segment (segment_at 32768 c.args.opening.now)) first in
     record {
       bytes = c.in_ok-bytes.ensures ∙ ap (λ (m : Module). module_text (nested_module m)) both
           ∙ ap module_text (guest_is_nested c.args.manner c.args.answer.now c.args.opening.now);
