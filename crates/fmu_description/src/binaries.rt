@@ -1,5 +1,5 @@
 //! The binary variables of a description.
-ghost use Rattle.std.specs.Prelude.{◌≡◌, [], true};
+ghost use Rattle.std.specs.Prelude.{◌≡◌, ◌≢◌, [], true};
 ghost use Rattle.toml.specs.View.{table_view, array_view, items_view};
 ghost use Rattle.std.specs.List.{list_any};
 ghost use Rattle.document_specs.specs.Checks.{each};
@@ -54,7 +54,10 @@ fn read_binary(
     before: &[BinaryVariable],
     table: &Table,
 ) -> Result<BinaryVariable, DescError>
-    ensures { Gives (λ b. b) result (spec.binary_of clocks.now before.now (table_view table.now)) }
+    ensures gives { Gives (λ b. b) result (spec.binary_of clocks.now before.now (table_view table.now)) }
+
+    // It takes no memory, so a refusal names its field.
+    ensures named { result ≢ Err DescError.Memory }
 {
     let place = before.len() as u64;
     let Some(_name) = text_at(table, "name") else {

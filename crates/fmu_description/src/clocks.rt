@@ -1,5 +1,5 @@
 //! The clocks of a description.
-ghost use Rattle.std.specs.Prelude.{◌≡◌, [], true, IfOk};
+ghost use Rattle.std.specs.Prelude.{◌≡◌, ◌≢◌, [], true, IfOk};
 ghost use Rattle.toml.specs.View.{table_view, items_view};
 ghost use Rattle.document_specs.specs.Checks.{each};
 ghost use Rattle.document_specs.specs.Documents.{are_tables, tables_of};
@@ -39,7 +39,10 @@ fn clocks_in(alloc: Global, rows: &[Value]) -> Result<Vec<ClockVariable>, DescEr
 
 #[tactic(auto, unfolding(description_specs::specs::Clocks::clock_at))]
 fn read_clock(before: &[ClockVariable], table: &Table) -> Result<ClockVariable, DescError>
-    ensures { Gives (λ c. c) result (spec.clock_of before.now (table_view table.now)) }
+    ensures gives { Gives (λ c. c) result (spec.clock_of before.now (table_view table.now)) }
+
+    // It takes no memory, so a refusal names its field.
+    ensures named { result ≢ Err DescError.Memory }
 {
     let place = before.len() as u64;
     let Some(_name) = text_at(table, "name") else {

@@ -1,5 +1,5 @@
 //! What stands before the arrays.
-ghost use Rattle.std.specs.Prelude.{◌≡◌, true, option_map, IfOk};
+ghost use Rattle.std.specs.Prelude.{◌≡◌, ◌≢◌, true, option_map, IfOk};
 ghost use Rattle.document_specs.specs.Documents.{is_identifier};
 ghost use Rattle.toml.specs.View.{table_view};
 ghost use Rattle.description_specs.specs.Descriptions as spec;
@@ -27,6 +27,9 @@ pub(crate) fn read_head(alloc: Global, table: &Table) -> Result<Name, DescError>
 fn identifier<'a>(table: &'a Table) -> Result<&'a str, DescError>
     ensures text { Gives (λ s. s.now) result (spec.head_of (table_view table.now)) }
     ensures fits { IfOk result (λ s. is_identifier s.now ≡ true) }
+
+    // It takes no memory, so a refusal names its field.
+    ensures named { result ≢ Err DescError.Memory }
 {
     let Some(_version) = version_at(table, "fmiVersion") else {
         return Err(DescError::Field(Field::FmiVersion, 0));

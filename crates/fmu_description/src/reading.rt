@@ -1,5 +1,5 @@
 //! A whole description.
-ghost use Rattle.std.specs.Prelude.{◌≡◌, ℕ, Ok, Err, IfOk};
+ghost use Rattle.std.specs.Prelude.{◌≡◌, ◌<◌, ℕ, Ok, Err, IfOk, length};
 ghost use Rattle.toml.specs.View.{table_view};
 ghost use Rattle.description_specs.specs.Descriptions as spec;
 ghost use Rattle.description_specs.specs.Variables.{refusal};
@@ -21,13 +21,17 @@ use toml::Table;
 pub fn read_description(alloc: Global, bytes: &[u8]) -> Result<Description, DescError>
     ensures found { IfOk result (λ d. spec.description_of bytes.now ≡ Ok d) }
     ensures refused { (f : Field) (place : ℕ) → result ≡ Err (DescError.Field f place) → spec.description_of bytes.now ≡ Err (refusal f place) }
+
+    // A text over the limit is refused as such, whatever memory there is.
+    ensures sized { spec.most_bytes < length bytes.now → result ≡ Err (DescError.Field Field.Size spec.most_bytes) }
 {
     read_file(alloc, bytes)
 }
 
 #[tactic(auto, unfolding(description_specs::specs::Descriptions::description_of))]
 fn read_file(alloc: Global, bytes: &[u8]) -> Result<Description, DescError>
-    ensures { Gives (λ d. d) result (spec.description_of bytes.now) }
+    ensures gives { Gives (λ d. d) result (spec.description_of bytes.now) }
+    ensures sized { spec.most_bytes < length bytes.now → result ≡ Err (DescError.Field Field.Size spec.most_bytes) }
 {
     if 1_048_576 < bytes.len() {
         return Err(DescError::Field(Field::Size, 1_048_576));

@@ -1,5 +1,5 @@
 //! The errors that are to happen.
-ghost use Rattle.std.specs.Prelude.{◌≡◌, ◌≤◌, [], true, codes, length, option_and_then, position};
+ghost use Rattle.std.specs.Prelude.{◌≡◌, ◌≢◌, ◌≤◌, [], true, codes, length, option_and_then, position};
 ghost use Rattle.toml.specs.View.{table_view, items_view};
 ghost use Rattle.document_specs.specs.Checks.{each};
 ghost use Rattle.document_specs.specs.Documents.{are_tables, tables_of};
@@ -74,7 +74,10 @@ fn read_entry(
 ) -> Result<ScriptEntry, NetworkFileError>
     requires few_buses { length buses.now ≤ 4 }
     requires few_nodes { length nodes.now ≤ 32 }
-    ensures { Gives (λ e. e) result (spec.entry_at place buses.now nodes.now (table_view table.now)) }
+    ensures gives { Gives (λ e. e) result (spec.entry_at place buses.now nodes.now (table_view table.now)) }
+
+    // It takes no memory, so a refusal names its field.
+    ensures named { result ≢ Err NetworkFileError.Memory }
 {
     let Some(bus) = bus_at(buses, table) else {
         return Err(NetworkFileError::Field(NetworkField::ErrorBus, place));

@@ -1,5 +1,5 @@
 //! The numbers at the top of the file.
-ghost use Rattle.std.specs.Prelude.{◌≡◌, ◌≤◌, ◌^◌, IfOk, IfSome};
+ghost use Rattle.std.specs.Prelude.{◌≡◌, ◌≢◌, ◌≤◌, ◌^◌, IfOk, IfSome};
 ghost use Rattle.toml.specs.View.{table_view};
 ghost use Rattle.network_specs.specs.Settings as spec;
 ghost use Rattle.network_file.specs.Answers.{Gives};
@@ -16,6 +16,9 @@ pub(crate) fn read_settings(table: &Table) -> Result<Settings, NetworkFileError>
     ensures gives { Gives (λ s. s) result (spec.settings_of (table_view table.now)) }
     ensures low { IfOk result (λ s. 1 ≤ s.resolution) }
     ensures high { IfOk result (λ s. s.resolution ≤ 10 ^ 12) }
+
+    // It takes no memory, so a refusal names its field.
+    ensures named { result ≢ Err NetworkFileError.Memory }
 {
     let Some(resolution) = number_at(table, "resolution", 1, 1_000_000_000_000) else {
         return Err(NetworkFileError::Field(NetworkField::Resolution, 0));
