@@ -36,28 +36,26 @@ typed_as m t f params locals results ps ls rs =
     ∙ ap (λ locals. type_of_body (context_with m t.params locals results) f.code) ls
     ∙ ap (λ results. type_of_body (context_with m t.params f.locals results) f.code) rs
 
--- what is said of each nested code, of one
-pub agrees_at : {E : Type 0} (r : Result (Result (Unit {0}) Flaw) E) (body : List Instr) (c : Context) (code : Code) (found : Found OperandTypes) → IfOk r (λ t. (code : Code) → HasPlainLeaves code → body ≡ flat_body code → Agrees t (type_of_body c code)) → HasPlainLeaves code → body ≡ flat_body code → type_of_body c code ≡ found → IfOk r (λ t. Agrees t found)
-agrees_at (Ok t) body c code found each plain is e = subst (Agrees t) e (each code plain is)
-agrees_at (Err x) body c code found each plain is e = tt
+pub agrees_at : {E : Type 0} (r : Result (Result (Unit {0}) Flaw) E) (was found : Found OperandTypes) → IfOk r (λ t. Agrees t was) → was ≡ found → IfOk r (λ t. Agrees t found)
+agrees_at r was found agrees is = subst (λ found. IfOk r (λ t. Agrees t found)) is agrees
 
 -- ---- functions of a module that is spelled
 
 all_at : {A : Type 0} (P : A → Type 0) (xs : List A) (i : ℕ) (x : A) → All P xs → slice_get xs i ≡ Some x → P x
 all_at P xs i x all is = subst P (get_or_from_slice_get xs i x x is) (All-get_or P xs i x (slice_get_within xs i x is) all)
 
-nested_is_flat : (g : NestedFunc) → HasPlainLeaves g.code → IsFlat (flat_func g)
+nested_is_flat : (g : NestedFunc) → HasPlainLeaves g.code → IsFlat (flat_func g).body
 nested_is_flat g plain =
     let back = code_back g.code plain in
     (subst HasPlainLeaves (sym back) plain, ap flat_body (sym back))
 
-flat_among : (gs : List NestedFunc) (i : ℕ) (f : Func) (o : Option NestedFunc) → All (λ g. HasPlainLeaves g.code) gs → slice_get gs i ≡ o → option_map flat_func o ≡ Some f → IsFlat f
+flat_among : (gs : List NestedFunc) (i : ℕ) (f : Func) (o : Option NestedFunc) → All (λ g. HasPlainLeaves g.code) gs → slice_get gs i ≡ o → option_map flat_func o ≡ Some f → IsFlat f.body
 flat_among gs i f None all is e = absurd (let x : None ≡ Some f = e in cc)
 flat_among gs i f (Some g) all is e =
     let same : flat_func g ≡ f = cc in
-    subst IsFlat same (nested_is_flat g (all_at (λ (g : NestedFunc). HasPlainLeaves g.code) gs i g all is))
+    subst (λ (f : Func). IsFlat f.body) same (nested_is_flat g (all_at (λ (g : NestedFunc). HasPlainLeaves g.code) gs i g all is))
 
-pub flat_at : (m : Module) → IsSpelled m → (i : ℕ) (f : Func) → slice_get m.funcs i ≡ Some f → IsFlat f
+pub flat_at : (m : Module) → IsSpelled m → (i : ℕ) (f : Func) → slice_get m.funcs i ≡ Some f → IsFlat f.body
 flat_at m s i f is =
     let fs : m.funcs ≡ map flat_func s.nested.funcs = ap (λ (m : Module). m.funcs) s.flat in
     let plain = plain_module s.nested (module_fits s.nested s.bytes s.spelled) in
