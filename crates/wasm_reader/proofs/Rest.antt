@@ -163,8 +163,8 @@ rest_is b at = by_read (sections_at (length b) start b at)
         ∙ ap (λ n. refuse_if (not (eqb n (length indices))) (fault.Count (length b)) >>= λ fine. Ok (flat_module m)) (sym (length-map m.funcs flat_func))
         ∙ ap (finished (length b)) (sym h.1)
 
-gives_same : (r read : Result Module Fault) → read ≡ r → Gives (λ m. m) r read
-gives_same (Ok m) read h = h
+pub gives_same : {A : Type 0} (r read : Result A Fault) → read ≡ r → Gives (λ x. x) r read
+gives_same (Ok x) read h = h
 gives_same (Err e) read h = fails_of e read h
 
 -- what stands behind the header is read as its sections make it

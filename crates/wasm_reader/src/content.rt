@@ -192,7 +192,7 @@ fn custom(alloc: Global, bytes: &[u8], at: usize) -> Result<(Part, usize), Fault
 fn imports(id: usize, bytes: &[u8], at: usize) -> Result<(Part, usize), Fault>
     requires { at ≤ length bytes.now }
     ensures next { IfOk result (λ p. p.1 ≤ length bytes.now) }
-    ensures is { Gives (λ p. p) result (flat_part (imports_at id bytes.now at)) }
+    ensures is { result ≡ flat_part (imports_at id bytes.now at) }
 {
     let (count, next) = number(bytes, at)?;
     if count > 0 {

@@ -1,7 +1,7 @@
 //! Modules: header, sections and what they make.
-ghost use Rattle.std.specs.Prelude.{◌≡◌, ◌≤◌, ◌<◌, length, IfOk, Ok};
+ghost use Rattle.std.specs.Prelude.{◌≡◌, ◌≤◌, ◌<◌, length, true, false, IfOk, Ok};
 ghost use Rattle.wasm_types.specs.Modules.{NestedModule, flat_module};
-ghost use Rattle.module_specs.specs.ModuleSpelling.{SpellsModule, start};
+ghost use Rattle.module_specs.specs.ModuleSpelling.{SpellsModule, start, magic, version};
 ghost use Rattle.module_specs.specs.Reading.{Gives};
 ghost use Rattle.module_specs.specs.ModuleReading.{sections_at, rest_at, differs, module_read};
 ghost use Rattle.wasm_reader.specs.Outcome.{outcome_of, Returns};
@@ -68,7 +68,11 @@ fn differs(bytes: &[u8], at: usize, these: &[u8]) -> bool
 
 #[tactic(auto, unfolding(module_specs::specs::ModuleReading::module_read))]
 fn read_file(alloc: Global, bytes: &[u8]) -> Result<Module, Fault>
-    ensures { Gives (λ m. m) result (flat_whole (module_read bytes.now)) }
+    ensures is { Gives (λ m. m) result (flat_whole (module_read bytes.now)) }
+    ensures sized { 4194304 < length bytes.now → result ≡ Err (Fault.Size 4194304) }
+    ensures other_magic { length bytes.now ≤ 4194304 → differs bytes.now 0 magic ≡ true → result ≡ Err (Fault.Magic 0) }
+    ensures other_version { length bytes.now ≤ 4194304 → differs bytes.now 0 magic ≡ false → differs bytes.now 4 version ≡ true
+        → result ≡ Err (Fault.Version 4) }
 {
     if bytes.len() > MOST_BYTES {
         return Err(Fault::Size(MOST_BYTES));
@@ -92,6 +96,11 @@ pub fn read_module(alloc: Global, bytes: &[u8]) -> Result<Module, ReadError>
     ensures only { (m : NestedModule) → SpellsModule m bytes.now → Returns result (Ok (flat_module m)) }
     // Which fault it is.
     ensures exact { Returns result (outcome_of (module_read bytes.now)) }
+    // The header is read without memory: what is wrong with it is always named.
+    ensures sized { 4194304 < length bytes.now → result ≡ Err (ReadError.Size 4194304) }
+    ensures other_magic { length bytes.now ≤ 4194304 → differs bytes.now 0 magic ≡ true → result ≡ Err (ReadError.Magic 0) }
+    ensures other_version { length bytes.now ≤ 4194304 → differs bytes.now 0 magic ≡ false → differs bytes.now 4 version ≡ true
+        → result ≡ Err (ReadError.Version 4) }
 {
     match read_file(alloc, bytes) {
         Ok(read) => Ok(read),

@@ -1,5 +1,5 @@
 //! Modules that are valid.
-ghost use Rattle.std.specs.Prelude.{◌≡◌, ℕ, IfOk, Err};
+ghost use Rattle.std.specs.Prelude.{◌≡◌, ◌≢◌, ℕ, IfOk, Err};
 ghost use Rattle.wasm_types.specs.Back.{nested_module};
 ghost use Rattle.code_specs.specs.declared.rule.Rule.{Rule};
 ghost use Rattle.code_specs.specs.Validity.{IsValid, validity};
@@ -45,9 +45,10 @@ impl Checked {
     }
 }
 
-/// The rules of types, functions, tables, memories and globals.
+/// The rules of types, functions, tables, memories and globals. Takes no memory.
 fn check_kinds(parts: &Module) -> Result<(), Invalid>
-    ensures { Finds result (kinds_verdict (nested_module parts.now)) }
+    ensures finds { Finds result (kinds_verdict (nested_module parts.now)) }
+    ensures sure { result ≢ Err Invalid.Memory }
 {
     none_fails(Rule::TypeResult, failing_type(parts))?;
     none_fails(Rule::FuncType, failing_func(parts))?;
@@ -71,7 +72,9 @@ fn check_uses(alloc: Global, parts: &Module) -> Result<(), Invalid>
 
 fn check(alloc: Global, parts: &Module) -> Result<(), Invalid>
     requires { IsSpelled parts.now }
-    ensures { Finds result (validity (nested_module parts.now)) }
+    ensures finds { Finds result (validity (nested_module parts.now)) }
+    ensures kinds { (rule : Rule) (place at : ℕ) → kinds_verdict (nested_module parts.now) ≡ Err (record { rule = rule; place = place; at = at })
+        → result ≡ Err (Invalid.Rule rule place at) }
 {
     check_kinds(parts)?;
     check_uses(alloc, parts)?;
@@ -88,6 +91,9 @@ pub fn validate(alloc: Global, module: Module) -> Result<Checked, Invalid>
     // Else the first rule that fails, with its place and its instruction.
     ensures refused { (rule : Rule) (place at : ℕ) → result ≡ Err (Invalid.Rule rule place at)
         → validity (nested_module «module») ≡ Err (record { rule = rule; place = place; at = at }) }
+    // Types, functions, tables, memories and globals are looked at without memory: where a rule of theirs fails, it is named.
+    ensures kinds { (rule : Rule) (place at : ℕ) → kinds_verdict (nested_module «module») ≡ Err (record { rule = rule; place = place; at = at })
+        → result ≡ Err (Invalid.Rule rule place at) }
 {
     match check(alloc, &module) {
         Ok(()) => Ok(Checked { module }),

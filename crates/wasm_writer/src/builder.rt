@@ -1,5 +1,5 @@
 //! A module, built part by part.
-ghost use Rattle.std.specs.Prelude.{◌≡◌, ◌<◌, ◌≤◌, ◌^◌, length, All, IfOk, OnOk, OnErr};
+ghost use Rattle.std.specs.Prelude.{◌≡◌, ◌<◌, ◌≤◌, ◌^◌, length, All, IfOk, IsOk, OnOk, OnErr};
 ghost use Rattle.wasm_types.specs.declared.instr.ValType.TheVariants.{I32};
 ghost use Rattle.wasm_writer.specs.Building.{nothing, with_type, with_func, with_memory, with_global, with_export, segment_at, with_segment};
 
@@ -44,7 +44,8 @@ impl Model for ModuleBuilder {
 
 // The position of the next item. A list with a position for each u32 takes no more: that is want of memory too.
 fn position(len: usize) -> Result<u32, AllocError>
-    ensures { IfOk result (λ n. n ≡ len) }
+    ensures is { IfOk result (λ n. n ≡ len) }
+    ensures fits { len < 2 ^ 32 → IsOk result }
 {
     match u32::try_from(len) {
         Ok(n) => Ok(n),
