@@ -1,6 +1,6 @@
 -- What the events and the close of a network leave of its units, and what the close leaves of its buses and nodes. Public clauses cite this
 -- file.
-use Rattle.std.specs.Prelude.{ℕ, List, [], ◌∷◌, Option, Some, None, fold, if◌then◌else◌, map}
+use Rattle.std.specs.Prelude.{◌≡◌, ℕ, List, [], ◌∷◌, Option, Some, None, fold, if◌then◌else◌, map}
 use Rattle.bus_specs.specs.Bus.{Bus}
 use Rattle.bus_specs.specs.Inbox.{leave}
 use Rattle.world_specs.specs.Fits.{is_live}
@@ -29,6 +29,11 @@ units_by u w now (Start bus) units = units
 
 abbrev pub units_behind : {S : Type 0} → Units S → World S → Event → List S → List S
 units_behind u w e units = units_by u w e.moment e.what units
+
+-- what units share stays as it was, but where sessions are held
+abbrev pub KeepsShared : {A : Type 0} → What → (old new : A) → Type 0
+KeepsShared Sessions old new = Unit {0}
+KeepsShared other old new = new ≡ old
 
 -- ---- the close
 

@@ -6,7 +6,7 @@ ghost use Rattle.world_specs.specs.Network.{close_lines, step};
 ghost use Rattle.world_specs.specs.Plan.{IsPlan, units_of};
 ghost use Rattle.world_specs.specs.Step.{event_lines, world_behind};
 ghost use Rattle.world_core.specs.Events.{event_of};
-ghost use Rattle.world_core.specs.Left.{network_closed, units_behind, units_closed};
+ghost use Rattle.world_core.specs.Left.{KeepsShared, network_closed, units_behind, units_closed};
 ghost use Rattle.world_core.specs.Seen.{opened};
 ghost use Rattle.world_core.specs.Units.{AreApart, states_of};
 
@@ -206,6 +206,7 @@ impl<E: Ecu> World<E> {
           units = units_behind (units_of E.answer E.phase_of self.old.plan) self.old.network (event_of event) self.old.units;
           shared = self.new.shared;
         }) }
+        ensures shared { OnOk result (KeepsShared (event_of event).what self.old.shared self.new.shared) }
         ensures lines { IfOk result (λ lines. lines ≡ event_lines (units_of E.answer E.phase_of self.old.plan) self.old.network (event_of event)) }
         ensures fails { OnErr result (self.new.failed ≡ true) }
         ensures events { OnErr result (self.new.network.events ≡ self.old.network.events) }
@@ -219,9 +220,25 @@ impl<E: Ecu> World<E> {
         }
     }
 
-    /// The next event happens, and its lines come out. The units of the nodes that take part in its sessions
-    /// change, each by the calls of its own session; where it is no Sessions, none does. An error comes where
-    /// memory runs out: then the world has failed.
+    /// This event, which is the next one, happens, and its lines come out: for a caller that has looked for it. The units
+    /// of the nodes that take part in its sessions change, each by the calls of its own session; where it is no
+    /// Sessions, none does. An error comes where memory runs out: then the world has failed.
+    pub fn happen(&mut self, alloc: Global, event: Event) -> Result<LineList, AllocError>
+        requires goes_on { self.old.failed ≡ false }
+        requires next { next_event self.old.plan.stop self.old.network ≡ Some (event_of event) }
+        requires budget { self.old.network.events < self.old.plan.events }
+        ensures step { IfOk result (λ lines. step (units_of E.answer E.phase_of self.old.plan) self.old.plan.stop self.old.network ≡ Some (self.new.network, lines)) }
+        ensures units { OnOk result (self.new.units ≡ units_behind (units_of E.answer E.phase_of self.old.plan) self.old.network (event_of event) self.old.units) }
+        ensures shared { OnOk result (KeepsShared (event_of event).what self.old.shared self.new.shared) }
+        ensures plan { OnOk result (self.new.plan ≡ self.old.plan) }
+        ensures goes_on { OnOk result (self.new.failed ≡ false) }
+        ensures fails { OnErr result (self.new.failed ≡ true) }
+        ensures events { OnErr result (self.new.network.events ≡ self.old.network.events) }
+    {
+        self.act(alloc, event)
+    }
+
+    /// The next event happens, as by `happen`.
     pub fn event(&mut self, alloc: Global) -> Result<LineList, AllocError>
         requires goes_on { self.old.failed ≡ false }
         requires next { is_some (next_event self.old.plan.stop self.old.network) ≡ true }
@@ -229,13 +246,14 @@ impl<E: Ecu> World<E> {
         ensures step { IfOk result (λ lines. step (units_of E.answer E.phase_of self.old.plan) self.old.plan.stop self.old.network ≡ Some (self.new.network, lines)) }
         ensures units { OnOk result (IfSome (next_event self.old.plan.stop self.old.network)
             (λ e. self.new.units ≡ units_behind (units_of E.answer E.phase_of self.old.plan) self.old.network e self.old.units)) }
+        ensures shared { OnOk result (IfSome (next_event self.old.plan.stop self.old.network) (λ e. KeepsShared e.what self.old.shared self.new.shared)) }
         ensures plan { OnOk result (self.new.plan ≡ self.old.plan) }
         ensures goes_on { OnOk result (self.new.failed ≡ false) }
         ensures fails { OnErr result (self.new.failed ≡ true) }
         ensures events { OnErr result (self.new.network.events ≡ self.old.network.events) }
     {
         let event = self.next_event().unwrap();
-        self.act(alloc, event)
+        self.happen(alloc, event)
     }
 
     /// The unit of each live node is closed, in the order of the nodes, and the lines of those that fail come

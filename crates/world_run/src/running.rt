@@ -65,11 +65,11 @@ pub fn run<E: Ecu, O: Sink>(
     ensures later { O.faults out.old ≤ O.faults out.new }
 {
     let mut left = budget;
-    while world.next_event().is_some() {
+    while let Some(event) = world.next_event() {
         if left == 0 {
             return close_with(alloc, world, Ending::Spent, out);
         }
-        let lines = world.event(alloc)?;
+        let lines = world.happen(alloc, event)?;
         write_lines(alloc, lines.as_slice(), out)?;
         left -= 1;
     }

@@ -83,8 +83,8 @@ returns-clause-stopped g c =
     let whole = done-lines (units_of g.E.Ecu.answer g.E.Ecu.phase_of w.plan) w.plan.stop c.loop-world.left w.network i.log.0 _ next i.log.2 in
     λ memory. stopped-behind g.O.Sink line_text c.args.out.now c.loop-world.out c.close_with-2.new.out i.log.0 _ [] _ (append-nil _ ∙ whole) i.log.1 (c.close_with-2.ensures.stopped memory)
 
-pub event-requires-clause-budget : goal.event-requires-clause-budget
-event-requires-clause-budget g c =
+pub happen-requires-clause-budget : goal.happen-requires-clause-budget
+happen-requires-clause-budget g c =
     let more : 0 < c.loop-world.left = search rules in
     let few : c.loop-world.world.network.events + c.loop-world.left ≤ c.loop-world.world.plan.events = c.loop-world.invariant.few in
     omega (arith, more, few)
@@ -100,7 +100,7 @@ returns-in_err-write_lines-clause-part g c =
     let w = c.loop-world.world in
     let more : 0 < c.loop-world.left = search rules in
     let texts = texts-of line_text line_of c.as_slice.result.now ∙ ap (map line_text) c.as_slice.ensures in
-    let left = next-lines (units_of g.E.Ecu.answer g.E.Ecu.phase_of w.plan) w.plan.stop c.loop-world.left w.network c.event.new.self.network c.in_ok-lines.lines i.log.0 _ more c.in_ok-lines.ensures.step i.log.2 in
+    let left = next-lines (units_of g.E.Ecu.answer g.E.Ecu.phase_of w.plan) w.plan.stop c.loop-world.left w.network c.happen.new.self.network c.in_ok-lines.lines i.log.0 _ more c.in_ok-lines.ensures.step i.log.2 in
     λ unwritten.
     let broke : BreaksOff g.O.Sink c.loop-world.out c.write_lines.new.out (map (λ l. line_text (line_of l)) c.as_slice.result.now) = search (rules, unwritten) in
     broke-behind g.O.Sink line_text c.args.out.now c.loop-world.out c.write_lines.new.out i.log.0 _ _ _ left i.log.1 (rw (← texts) broke)
@@ -111,7 +111,7 @@ returns-in_err-write_lines-clause-stopped g c =
     let w = c.loop-world.world in
     let more : 0 < c.loop-world.left = search rules in
     let texts = texts-of line_text line_of c.as_slice.result.now ∙ ap (map line_text) c.as_slice.ensures in
-    let left = next-lines (units_of g.E.Ecu.answer g.E.Ecu.phase_of w.plan) w.plan.stop c.loop-world.left w.network c.event.new.self.network c.in_ok-lines.lines i.log.0 _ more c.in_ok-lines.ensures.step i.log.2 in
+    let left = next-lines (units_of g.E.Ecu.answer g.E.Ecu.phase_of w.plan) w.plan.stop c.loop-world.left w.network c.happen.new.self.network c.in_ok-lines.lines i.log.0 _ more c.in_ok-lines.ensures.step i.log.2 in
     λ memory.
     let stopped : StopsBefore g.O.Sink c.loop-world.out c.write_lines.new.out (map (λ l. line_text (line_of l)) c.as_slice.result.now) = search (rules, memory) in
     stopped-behind g.O.Sink line_text c.args.out.now c.loop-world.out c.write_lines.new.out i.log.0 _ _ _ left i.log.1 (rw (← texts) stopped)
@@ -120,7 +120,7 @@ pub loop-world-preserved : goal.loop-world-preserved
 loop-world-preserved g c =
     let i = c.loop-world.invariant in
     let w = c.loop-world.world in
-    let v = c.event.new.self in
+    let v = c.happen.new.self in
     let u = units_of g.E.Ecu.answer g.E.Ecu.phase_of w.plan in
     let more : 0 < c.loop-world.left = search rules in
     let taken = c.in_ok-lines.ensures.step in
