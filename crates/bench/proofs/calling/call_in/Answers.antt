@@ -6,7 +6,7 @@ use Rattle.bench_outside.specs.Pieces.{BreaksOff, WritesAll}
 use Rattle.bench_outside.specs.PieceSteps.{breaks_one}
 use Rattle.bench.specs.Words.{meant_call}
 use Rattle.bench.specs.Deed.{IsFault}
-use Rattle.bench.specs.Calling.{call_status, call_lines, uncalled_status}
+use Rattle.bench.specs.Calling.{call_lines, uncalled_status}
 use Rattle.bench.proofs.Modules.{one_call}
 use Rattle.bench.proofs.Unaccepted.{uncalled, whole}
 use Rattle.bench.proofs.calling.call_in.Goals as goal

@@ -4,7 +4,7 @@ use Rattle.module_specs.specs.ModuleReading.{module_read}
 use Rattle.bench_outside.specs.Pieces.{BreaksOff, WritesAll}
 use Rattle.bench_outside.specs.PieceSteps.{breaks_one}
 use Rattle.bench.specs.Deed.{IsFault}
-use Rattle.bench.specs.Telling.{read_status, read_lines}
+use Rattle.bench.specs.Telling.{read_lines}
 use Rattle.bench.proofs.Modules.{one_line}
 use Rattle.bench.proofs.Unaccepted.{untold, whole}
 use Rattle.bench.proofs.telling.tell_bytes.Goals as goal
