@@ -1,5 +1,5 @@
 -- A file of a network whose read stops its reading is one of those that are read.
-use Rattle.std.proofs.Common.{◌≡◌, ◌≤◌, ◌<◌, ◌⊎◌, ℕ, zero, suc, ◌+◌, ◌==◌, Bool, true, false, List, [], ◌∷◌, ◌++◌, Option, Some, None, length, slice_get, refl, sym, ap, ◌∙◌, subst, arith, inl, inr, eq-eqb}
+use Rattle.std.proofs.Common.{◌≡◌, ◌≤◌, ◌<◌, ◌⊎◌, ℕ, zero, suc, ◌+◌, true, List, [], ◌∷◌, ◌++◌, Option, Some, None, slice_get, refl, sym, ap, ◌∙◌, subst, arith, inl, inr, eq-eqb}
 use Rattle.std.specs.Prelude.{Result, Ok, Err, Contains, option_map, option_and_then}
 use Rattle.std.specs.Result.{result_ok}
 use Rattle.std.proofs.lemmas.Option.{slice_get_within}
@@ -11,7 +11,7 @@ use Rattle.network_specs.specs.Settings.{Refusal}
 use Rattle.network_specs.specs.NetworkFiles.{NetworkFile, network_file_of}
 use Rattle.network_specs.specs.Networks.{File, Main, DescriptionOf, ModuleOf, Unread, is_same_file, network_file_name}
 use Rattle.network_folder.specs.Outcomes.{description_at, file_id, lacking, module_at, name_in, network_in, node_in}
-use Rattle.bench.specs.Running.{asked_at, asked_from, asked_of, named, nodes_of, stops_at}
+use Rattle.bench.specs.Running.{asked_at, asked_from, asked_of, nodes_of, stops_at}
 
 same-file : (f : File) → is_same_file f f ≡ true
 same-file Main = refl

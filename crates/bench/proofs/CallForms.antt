@@ -1,6 +1,6 @@
 -- Words behind `call` that are its form.
 use Rattle.std.specs.Prelude.{◌≡◌, ◌≤◌, ◌-◌, ℕ, List, [], ◌∷◌, true, Option, Some, None, Result, Ok, Err, option_map, option_and_then, is_some, length, map, refl, IfErr}
-use Rattle.std.proofs.Common.{arith, sym, ap, ◌∙◌, subst, get_or, take, drop, take_all}
+use Rattle.std.proofs.Common.{arith, ap, ◌∙◌, subst, get_or, take, drop, take_all}
 use Rattle.plain_text.specs.Decimal.{number_in}
 use Rattle.call_specs.specs.CallWords.{CallWords, arguments_of_words, most_fuel}
 use Rattle.bench.specs.Words.{Call, of_call}

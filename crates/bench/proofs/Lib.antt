@@ -5,3 +5,6 @@ pub mod Modules
 pub mod CallForms
 pub mod Asked
 pub mod Ran
+pub mod Unplayed
+pub mod Unaccepted
+pub mod Fields

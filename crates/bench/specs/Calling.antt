@@ -3,8 +3,6 @@ use Rattle.std.specs.Prelude.{ℕ, List, [], ◌∷◌, Result, Ok, Err}
 use Rattle.wasm_types.specs.Modules.{NestedModule}
 use Rattle.module_specs.specs.declared.fault.Fault.{Fault}
 use Rattle.module_specs.specs.ModuleReading.{module_read}
-use Rattle.code_specs.specs.declared.segment.Misfit.{Misfit}
-use Rattle.code_specs.specs.declared.segment.Misfit.TheVariants.{Element, Data}
 use Rattle.code_specs.specs.Validity.{Verdict, validity}
 use Rattle.wasm_reader.specs.Outcome.{error_of}
 use Rattle.call_specs.specs.declared.fault.CallFault.{CallFault}
@@ -12,24 +10,28 @@ use Rattle.call_specs.specs.declared.fault.CallFault.TheVariants as fault
 use Rattle.call_specs.specs.CallWords.{CallWords}
 use Rattle.call_specs.specs.Called.{called}
 use Rattle.call_specs.specs.CallLine.{call_line}
+use Rattle.call_run.specs.declared.report.CallError.{CallError}
+use Rattle.call_run.specs.declared.report.CallError.TheVariants as error
+use Rattle.refusal_names.specs.Modules.{refusal_of_misfit}
 use Rattle.bench_outside.specs.declared.refusal.FileId.TheVariants.{Main}
 use Rattle.bench_outside.specs.declared.refusal.Refusal.{Refusal}
 use Rattle.bench_outside.specs.declared.refusal.Why.TheVariants as why
 use Rattle.bench.specs.declared.status.Status.{Status}
-use Rattle.bench.specs.declared.status.Status.TheVariants.{Done, Refused}
-use Rattle.bench.specs.Refusals.{main_refusal, main_refusal_at}
+use Rattle.bench.specs.declared.status.Status.TheVariants.{Done, Refused, Memory}
+use Rattle.bench.specs.Refusals.{main_refusal}
 use Rattle.bench.specs.Deed.{Deed}
-use Rattle.bench.specs.Telling.{error_status, invalid_status}
-
--- a segment that doesn't fit, by its position, with 0 for an element segment and 1 for a data segment
-abbrev pub misfit_refusal : Misfit → Refusal
-misfit_refusal (Element place) = main_refusal_at why.Segment place 0
-misfit_refusal (Data place) = main_refusal_at why.Segment place 1
+use Rattle.bench.specs.Telling.{error_status, invalid_status, unaccepted_status}
 
 abbrev pub fault_refusal : CallFault → Refusal
-fault_refusal (fault.Segment misfit) = misfit_refusal misfit
+fault_refusal (fault.Segment misfit) = refusal_of_misfit Main misfit
 fault_refusal fault.Export = main_refusal why.Export 0
 fault_refusal (fault.Args place) = main_refusal why.Args place
+
+-- the status where no function is called
+abbrev pub uncalled_status : CallError → Status
+uncalled_status (error.Module unaccepted) = unaccepted_status unaccepted
+uncalled_status (error.Call fault) = Refused (fault_refusal fault)
+uncalled_status error.Memory = Memory
 
 -- the status of a call, and what is written of it: its line, where a function of the module is called
 abbrev pub called_status : Result ℕ CallFault → Status

@@ -3,12 +3,14 @@ use Rattle.std.specs.Prelude.{◌≡◌, ◌≤◌, ◌<◌, ℕ, zero, suc, Lis
 use Rattle.log_specs.specs.Line.{line_text}
 use Rattle.play_specs.specs.Play.{Play, play_lines, play_status}
 use Rattle.play_specs.specs.PlayReading.{IsReadAs}
+use Rattle.play_file.specs.declared.error.PlayError.{PlayError}
+use Rattle.play_file.specs.declared.error.PlayError.TheVariants as play_error
 use Rattle.bench_outside.specs.Shelf.{Contents}
 use Rattle.bench_outside.specs.declared.refusal.FileId.TheVariants.{Main}
 use Rattle.bench_outside.specs.declared.refusal.Why.TheVariants.{Line, Size}
 use Rattle.bench_outside.specs.declared.refusal.Refusal.{Refusal}
 use Rattle.bench.specs.declared.status.Status.{Status}
-use Rattle.bench.specs.declared.status.Status.TheVariants.{Done, Refused, Spent}
+use Rattle.bench.specs.declared.status.Status.TheVariants.{Done, Refused, Memory, Spent}
 use Rattle.bench.specs.Refusals.{main_refusal}
 use Rattle.bench.specs.Deed.{Deed}
 
@@ -34,6 +36,11 @@ pub data Judgement (limit : ℕ) (bytes : List ℕ) : Result Play Refusal → Ty
 abbrev pub ended : ℕ → Status
 ended zero = Done
 ended (suc n) = Spent
+
+-- the status where a file isn't read as a play
+abbrev pub unplayed_status : PlayError → Status
+unplayed_status (play_error.Line number) = Refused (main_refusal Line number)
+unplayed_status play_error.Memory = Memory
 
 abbrev pub status_of : ℕ → Result Play Refusal → Status
 status_of budget (Ok play) = ended (play_status budget play)

@@ -1,11 +1,9 @@
 -- run NET: the log of the network of a folder.
-use Rattle.std.specs.Prelude.{ℕ, ◌+◌, zero, suc, Bool, true, false, List, [], ◌∷◌, ◌++◌, length, map, Option, Some, None, Result, Ok, Err, if◌then◌else◌}
+use Rattle.std.specs.Prelude.{ℕ, ◌+◌, zero, suc, Bool, false, List, [], ◌∷◌, ◌++◌, length, map, Option, Some, None, Result, Ok, Err, if◌then◌else◌}
 use Rattle.log_specs.specs.Line.{line_text}
 use Rattle.wasm_types.specs.Modules.{NestedModule}
-use Rattle.binding_specs.specs.declared.error.BindError.{BindError}
 use Rattle.network_specs.specs.NetworkFiles.{NetworkFile, network_file_of}
 use Rattle.network_specs.specs.Settings.{Refusal}
-use Rattle.network_specs.specs.Judging.{ModuleRefusal}
 use Rattle.network_specs.specs.Networks.{File, Main, DescriptionOf, ModuleOf, Stop, Unread, Network, is_same_file, network_file_name}
 use Rattle.network_folder.specs.declared.error.NetError.{NetError}
 use Rattle.network_folder.specs.declared.error.NetError.TheVariants as answer

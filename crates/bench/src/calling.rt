@@ -10,19 +10,17 @@ ghost use Rattle.bench.specs.Statuses.{WritesNothing};
 ghost use Rattle.bench.specs.Words.{Call, meant_call};
 ghost use Rattle.bench.specs.Deed.{Deed, CarriedOut, Caused, IsFault};
 ghost use Rattle.bench.specs.Deeds.{Does};
-ghost use Rattle.bench.specs.Calling.{fault_refusal, call_status, call_lines};
+ghost use Rattle.bench.specs.Calling.{fault_refusal, uncalled_status, call_status, call_lines};
 
-use crate::refusals::{refused, refused_at};
+use crate::refusals::refused;
 use crate::status::Status;
-use crate::telling::{LIMIT, status_of, why_of};
+use crate::telling::{LIMIT, unaccepted};
 use crate::words::CallWords;
 use bench_outside::{FileId, Shelf, Sink, Why};
 use call_run::{CallError, call_report};
 use call_specs::CallFault;
-use code_specs::Misfit;
-use module_report::ReportError;
+use refusal_names::misfit_refusal;
 use std::alloc::Global;
-use wasm_validate::Invalid;
 use whole_files::{FetchError, fetch};
 
 /// Writes the line on a call of a function of a file's module.
@@ -72,13 +70,7 @@ fn call_in<O: Sink>(alloc: Global, words: &CallWords<'_>, bytes: &[u8], out: &mu
     let name = words.name.as_bytes();
     let line = match call_report(alloc, bytes, name, words.fuel, &words.arguments) {
         Ok(line) => line,
-        Err(CallError::Module(ReportError::Read(error))) => return status_of(error),
-        Err(CallError::Module(ReportError::Invalid(Invalid::Memory))) => return Status::Memory,
-        Err(CallError::Module(ReportError::Invalid(Invalid::Rule { rule, place, at }))) => {
-            return refused_at(why_of(rule), place, at);
-        }
-        Err(CallError::Call(fault)) => return uncalled(fault),
-        Err(CallError::Memory) => return Status::Memory,
+        Err(error) => return uncalled(error),
     };
     match out.write(&line) {
         Ok(()) => Status::Done,
@@ -86,15 +78,26 @@ fn call_in<O: Sink>(alloc: Global, words: &CallWords<'_>, bytes: &[u8], out: &mu
     }
 }
 
+/// The status where no function is called.
+fn uncalled(error: CallError) -> Status
+    ensures status { result ≡ uncalled_status error }
+    ensures form { result ≢ Status.Usage }
+    ensures read { (file : FileId) → result ≢ Status.Unread file }
+    ensures written { result ≢ Status.Unwritten }
+{
+    match error {
+        CallError::Module(error) => unaccepted(error),
+        CallError::Call(fault) => unfit(fault),
+        CallError::Memory => Status::Memory,
+    }
+}
+
 /// The status where no function of a valid module is called.
-fn uncalled(fault: CallFault) -> Status
+fn unfit(fault: CallFault) -> Status
     ensures { result ≡ Status.Refused (fault_refusal fault) }
 {
     match fault {
-        CallFault::Segment(Misfit::Element(place)) => {
-            refused_at(Why::Segment, u64::from(place), 0)
-        }
-        CallFault::Segment(Misfit::Data(place)) => refused_at(Why::Segment, u64::from(place), 1),
+        CallFault::Segment(misfit) => Status::Refused(misfit_refusal(FileId::Main, misfit)),
         CallFault::Export => refused(Why::Export, 0),
         CallFault::Args(place) => refused(Why::Args, place),
     }

@@ -3,14 +3,17 @@
 //! `run NET` runs the network of a folder and writes its log.
 #![tactic(auto)]
 
-ghost use Rattle.std.specs.Prelude.{◌≡◌, ◌↔◌, [], IfOk, IsErr};
-ghost use Rattle.std.specs.IoError.{error_kind};
-
 mod calling;
 mod carrying;
+#[cfg(test)]
+mod heartbeat;
+mod laws;
 mod playing;
+mod process;
 mod refusals;
 mod reporting;
+#[cfg(test)]
+mod run_tests;
 mod running;
 mod status;
 mod telling;
@@ -20,36 +23,19 @@ mod top;
 mod words;
 
 use bench_outside::{FileShelf, OutSink, SystemFiles};
+use process::{bench_over, exit_of, words_of};
 use status::Status;
-use std::alloc::{AllocError, Global};
 use std::env;
-use std::io::{self, ErrorKind};
 use std::process::ExitCode;
 
 fn main(rt: HostRuntime) -> ExitCode {
     let alloc = rt.alloc();
-    let words = match env::args(&rt) {
-        Ok(args) => args.skip(1).collect::<Vec<String>>(alloc),
-        Err(error) => words_without(alloc, &error),
-    };
-    let Ok(words) = words else {
-        return ExitCode::from(Status::Memory.code());
+    let Ok(words) = words_of(alloc, env::args(&rt)) else {
+        return exit_of(&Status::Memory);
     };
     let mut out = OutSink::new(rt.stdout());
     let mut report = OutSink::new(rt.stderr());
     let mut shelf = FileShelf::new(alloc, SystemFiles::new(rt));
-    let status = top::bench(alloc, &words, &mut shelf, &mut out, &mut report);
-    ExitCode::from(status.code())
-}
-
-/// The words where those of the process can't be read: none where one of them isn't UTF-8.
-fn words_without(alloc: Global, error: &io::Error) -> Result<Vec<String>, AllocError>
-    ensures none { IfOk result (λ words. words.items ≡ []) }
-    ensures memory { IsErr result ↔ (error_kind error.now ≡ ErrorKind.OutOfMemory) }
-{
-    if error.kind() == ErrorKind::OutOfMemory {
-        Err(AllocError)
-    } else {
-        Ok(Vec::new(alloc))
-    }
+    let status = bench_over(alloc, &words, &mut shelf, &mut out, &mut report);
+    exit_of(&status)
 }

@@ -12,7 +12,7 @@ ghost use Rattle.bench.specs.Statuses.{WritesNothing};
 ghost use Rattle.bench.specs.Words.{Play};
 ghost use Rattle.bench.specs.Deed.{Deed, CarriedOut, Caused, IsFault};
 ghost use Rattle.bench.specs.Deeds.{Does};
-ghost use Rattle.bench.specs.Playing.{placed, status_of, lines_of, file_limit, event_budget};
+ghost use Rattle.bench.specs.Playing.{placed, unplayed_status, status_of, lines_of, file_limit, event_budget};
 
 use crate::refusals::refused;
 use crate::status::Status;
@@ -91,13 +91,25 @@ pub(crate) fn play_bytes<O: Sink>(alloc: Global, budget: u64, bytes: &[u8], out:
 {
     let play = match read_play(alloc, bytes) {
         Ok(play) => play,
-        Err(PlayError::Line { number }) => return refused(Why::Line, number),
-        Err(PlayError::Memory) => return Status::Memory,
+        Err(error) => return unplayed(error),
     };
     match run(alloc, budget, play, out) {
         Ok(Ending::Done) => Status::Done,
         Ok(Ending::Spent) => Status::Spent,
         Err(RunError::Unwritten) => Status::Unwritten,
         Err(RunError::Memory) => Status::Memory,
+    }
+}
+
+/// The status where a file isn't read as a play.
+fn unplayed(error: PlayError) -> Status
+    ensures status { result ≡ unplayed_status error }
+    ensures form { result ≢ Status.Usage }
+    ensures read { (file : FileId) → result ≢ Status.Unread file }
+    ensures written { result ≢ Status.Unwritten }
+{
+    match error {
+        PlayError::Line { number } => refused(Why::Line, number),
+        PlayError::Memory => Status::Memory,
     }
 }

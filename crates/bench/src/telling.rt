@@ -11,15 +11,15 @@ ghost use Rattle.bench.specs.Statuses.{WritesNothing};
 ghost use Rattle.bench.specs.Words.{Wasm};
 ghost use Rattle.bench.specs.Deed.{Deed, CarriedOut, Caused, IsFault};
 ghost use Rattle.bench.specs.Deeds.{Does};
-ghost use Rattle.bench.specs.Telling.{error_status, why_of, read_status, read_lines};
+ghost use Rattle.bench.specs.Telling.{unaccepted_status, read_status, read_lines};
 
-use crate::refusals::{refused, refused_at};
+use crate::refusals::{refused, refused_if};
 use crate::status::Status;
 use bench_outside::{FileId, Shelf, Sink, Why};
 use module_report::{ReportError, module_report};
+use refusal_names::{read_refusal, rule_refusal};
 use std::alloc::Global;
-use wasm_reader::ReadError;
-use wasm_validate::{Invalid, Rule};
+use wasm_validate::Invalid;
 use whole_files::{FetchError, fetch};
 
 /// The greatest length of a module's file, in bytes.
@@ -73,11 +73,7 @@ fn tell_bytes<O: Sink>(alloc: Global, bytes: &[u8], out: &mut O) -> Status
 {
     let line = match module_report(alloc, bytes) {
         Ok(line) => line,
-        Err(ReportError::Read(error)) => return status_of(error),
-        Err(ReportError::Invalid(Invalid::Memory)) => return Status::Memory,
-        Err(ReportError::Invalid(Invalid::Rule { rule, place, at })) => {
-            return refused_at(why_of(rule), place, at);
-        }
+        Err(error) => return unaccepted(error),
     };
     match out.write(&line) {
         Ok(()) => Status::Done,
@@ -85,49 +81,18 @@ fn tell_bytes<O: Sink>(alloc: Global, bytes: &[u8], out: &mut O) -> Status
     }
 }
 
-/// The status of a file that isn't read.
-pub(crate) fn status_of(error: ReadError) -> Status
-    ensures status { result ≡ error_status error }
+/// The status where a file isn't that of a valid module.
+pub(crate) fn unaccepted(error: ReportError) -> Status
+    ensures status { result ≡ unaccepted_status error }
     ensures form { result ≢ Status.Usage }
     ensures read { (file : FileId) → result ≢ Status.Unread file }
     ensures written { result ≢ Status.Unwritten }
 {
     match error {
-        ReadError::Short(at) => refused(Why::Short, at as u64),
-        ReadError::Size(at) => refused(Why::Size, at as u64),
-        ReadError::Magic(at) => refused(Why::Magic, at as u64),
-        ReadError::Version(at) => refused(Why::Version, at as u64),
-        ReadError::Section(at) => refused(Why::Section, at as u64),
-        ReadError::Order(at) => refused(Why::Order, at as u64),
-        ReadError::Number(at) => refused(Why::Number, at as u64),
-        ReadError::Import(at) => refused(Why::Import, at as u64),
-        ReadError::Float(at) => refused(Why::Float, at as u64),
-        ReadError::Form(at) => refused(Why::Form, at as u64),
-        ReadError::Utf8(at) => refused(Why::Utf8, at as u64),
-        ReadError::Opcode(at) => refused(Why::Opcode, at as u64),
-        ReadError::Nesting(at) => refused(Why::Nesting, at as u64),
-        ReadError::Count(at) => refused(Why::Count, at as u64),
-        ReadError::Limit(at) => refused(Why::Limit, at as u64),
-        ReadError::Memory => Status::Memory,
-    }
-}
-
-/// The name of a rule of validity.
-pub(crate) fn why_of(rule: Rule) -> Why
-    ensures { result ≡ why_of rule }
-{
-    match rule {
-        Rule::TypeResult => Why::TypeResult,
-        Rule::FuncType => Why::FuncType,
-        Rule::Limits => Why::Limits,
-        Rule::Global => Why::Global,
-        Rule::Export => Why::Export,
-        Rule::Start => Why::Start,
-        Rule::Element => Why::Element,
-        Rule::Data => Why::Data,
-        Rule::Index => Why::Index,
-        Rule::Align => Why::Align,
-        Rule::Operand => Why::Operand,
-        Rule::Slots => Why::Slots,
+        ReportError::Read(error) => refused_if(read_refusal(FileId::Main, error)),
+        ReportError::Invalid(Invalid::Rule { rule, place, at }) => {
+            Status::Refused(rule_refusal(FileId::Main, rule, place, at))
+        }
+        ReportError::Invalid(Invalid::Memory) => Status::Memory,
     }
 }

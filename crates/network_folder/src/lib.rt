@@ -14,6 +14,3 @@ mod units;
 pub use error::NetError;
 pub use network::Network;
 pub use reading::read_network;
-
-#[cfg(test)]
-mod tests;

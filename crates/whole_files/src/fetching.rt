@@ -1,5 +1,5 @@
 //! Reading a whole file, up to a greatest length.
-ghost use Rattle.std.specs.Prelude.{◌≡◌, ◌<◌, ◌≤◌, ◌^◌, ◌⊎◌, Some, Err, IfOk, length};
+ghost use Rattle.std.specs.Prelude.{◌≡◌, ◌<◌, ◌≤◌, ◌^◌, ◌⊎◌, Some, Ok, Err, IfOk, length, nat_lt, if◌then◌else◌};
 ghost use Rattle.bench_outside.specs.Causes.{Rose};
 ghost use Rattle.bench_outside.specs.Shelf.{Contents};
 
@@ -40,14 +40,19 @@ pub fn fetch<H: Shelf>(
     ensures others { H.write_faults shelf.new ≡ H.write_faults shelf.old }
 {
     match shelf.read(alloc, name, limit + 1) {
-        Ok(bytes) => {
-            if bytes.len() as u64 > limit {
-                Err(FetchError::Size)
-            } else {
-                Ok(bytes)
-            }
-        }
+        Ok(bytes) => within(bytes, limit),
         Err(ShelfError::Failed) => Err(FetchError::Unread),
         Err(ShelfError::Memory) => Err(FetchError::Memory),
+    }
+}
+
+/// The bytes, where there are no more than the limit.
+fn within(bytes: Vec<u8>, limit: u64) -> Result<Vec<u8>, FetchError>
+    ensures { result ≡ (if nat_lt limit (length bytes.items) then Err FetchError.Size else Ok bytes) }
+{
+    if bytes.len() as u64 > limit {
+        Err(FetchError::Size)
+    } else {
+        Ok(bytes)
     }
 }

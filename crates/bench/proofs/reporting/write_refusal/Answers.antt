@@ -2,7 +2,6 @@ use Rattle.std.proofs.Common.{rules, ◌≡◌, List, ℕ, [], ◌∷◌, codes,
 use Rattle.std.specs.Prelude.{OnOk}
 use Rattle.bench_outside.specs.Pieces.{WritesAll}
 use Rattle.bench_outside.specs.declared.refusal.FileId.{FileId}
-use Rattle.bench_outside.specs.declared.refusal.Refusal.{Refusal}
 use Rattle.bench.specs.Report.{why_text, line_pieces, refusal_pieces}
 use Rattle.bench.proofs.reporting.write_refusal.Goals as goal
 

@@ -1,13 +1,9 @@
-use Rattle.std.proofs.Common.{rules, ◌≡◌, ℕ, List, [], sym, ap, ◌∙◌, refl, inl, inr, map, subst}
-use Rattle.std.specs.Prelude.{Ok, Err, Contains}
-use Rattle.log_specs.specs.Line.{line_text}
+use Rattle.std.proofs.Common.{rules, ◌≡◌, sym, ap, ◌∙◌, refl, inl, inr, subst}
+use Rattle.std.specs.Prelude.{Err, Contains}
 use Rattle.bench_outside.specs.Pieces.{WritesAll, BreaksOff, StopsBefore}
-use Rattle.bench_outside.specs.PieceSteps.{stops_untouched, writes_nothing}
-use Rattle.bench_outside.specs.declared.refusal.FileId.{FileId}
-use Rattle.network_folder.specs.declared.error.NetError.TheVariants as answer
-use Rattle.network_folder.specs.Outcomes.{file_id, name_in, network_in, outcome_of, seen, whole}
-use Rattle.ideal_specs.specs.Ideal.{ideal_lines, ideal_status}
-use Rattle.bench.specs.declared.status.Status.TheVariants.{Refused, Unwritten, Memory, Unread}
+use Rattle.bench_outside.specs.PieceSteps.{writes_nothing}
+use Rattle.network_folder.specs.Outcomes.{outcome_of}
+use Rattle.bench.specs.declared.status.Status.TheVariants.{Refused}
 use Rattle.bench.specs.Running.{asked_of, network_lines, network_status, run_deed}
 use Rattle.bench.proofs.Asked.{is-asked}
 use Rattle.bench.proofs.Ran.{answers-as, writes-as, unread_is}

@@ -1,8 +1,7 @@
 use Rattle.std.proofs.Common.{◌≡◌, inl, inr, refl, sym, ap, ◌∙◌, subst}
-use Rattle.std.specs.Prelude.{Some, unwrap_or}
+use Rattle.std.specs.Prelude.{unwrap_or}
 use Rattle.bench_outside.specs.PieceSteps.{stops_untouched}
 use Rattle.bench.specs.Words.{Command, Call}
-use Rattle.bench.specs.Deed.{Deed}
 use Rattle.bench.specs.Deeds.{Does}
 use Rattle.bench.specs.Calling.{call_deed}
 use Rattle.bench.proofs.top.execute.Goals as goal

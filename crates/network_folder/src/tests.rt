@@ -1,4 +1,0 @@
-#[test]
-fn nothing_yet(rt: HostRuntime) {
-    assert!(rt; true);
-}
