@@ -9,9 +9,10 @@ use fmi_states::{Call, Ecu, FmiStatus, Reply, permitted};
 use fmu_description::{Description, Terminal};
 use std::alloc::Global;
 use std::test::Fail;
-use wasm_machine::fits;
+use wasm_machine::{Instance, fits};
+use wasm_memory::Pool;
 use wasm_reader::read_module;
-use wasm_validate::validate;
+use wasm_validate::{Checked, validate};
 
 fn name(alloc: Global, text: &[u8]) -> Result<Name, Fail> {
     match Name::of(Vec::from_slice(alloc, text)?) {
@@ -50,16 +51,38 @@ fn description(alloc: Global) -> Result<Description, Fail>
     })
 }
 
+/// The module that these bytes spell, which is valid.
+fn code(alloc: Global, bytes: &[u8]) -> Result<Checked, Fail> {
+    let Ok(module) = read_module(alloc, bytes) else {
+        return Err(Fail::from("module"));
+    };
+    match validate(alloc, module) {
+        Ok(code) => Ok(code),
+        Err(_) => Err(Fail::from("valid module")),
+    }
+}
+
+/// How many pages an instance of a module has that is made from these bytes of memory, so many pages of them.
+pub fn pages_from(
+    alloc: Global,
+    module: &[u8],
+    pages: u32,
+    memory: &[u8],
+) -> Result<Option<u32>, Fail> {
+    let code = code(alloc, module)?;
+    let mut pool = Pool::new(alloc)?;
+    if fits(&code).is_err() {
+        return Err(Fail::from("segments"));
+    }
+    let made = Instance::from_state(alloc, &mut pool, &code, pages, memory, &[])?;
+    Ok(made.map(|instance| instance.pages()))
+}
+
 /// The unit of a module that is read, valid, and exports what is asked of a unit.
 fn unit(alloc: Global, shared: &mut Guests, bytes: &[u8]) -> Result<WasmEcu, Fail>
     ensures { IfOk result (λ e. IsIn e shared.new) }
 {
-    let Ok(module) = read_module(alloc, bytes) else {
-        return Err(Fail::from("module"));
-    };
-    let Ok(code) = validate(alloc, module) else {
-        return Err(Fail::from("valid module"));
-    };
+    let code = code(alloc, bytes)?;
     let description = description(alloc)?;
     match (fits(&code), check(&code, &description)) {
         (Ok(()), Ok(())) => Ok(WasmEcu::new(alloc, shared, code, &description, 1_000_000)?),

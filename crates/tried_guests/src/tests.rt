@@ -1,5 +1,5 @@
 //! What each guest emits, and when.
-use crate::running::last_reply;
+use crate::running::{last_reply, pages_from};
 use can_frame::Bytes;
 use fmi_states::{Call, FmiStatus, Qualifier, Reply};
 use guest_kit::{echo, flooder, gateway, listener, sender, sleeper};
@@ -273,5 +273,16 @@ fn a_sleeper_sleeps_and_answers_a_wakeup(rt: HostRuntime) -> Result<(), Fail> {
     ];
     let reply = last_reply(alloc, module.as_slice(), &calls)?;
     assert!(rt; gives(&reply, &TRANSMIT));
+    Ok(())
+}
+
+#[test]
+fn an_instance_is_made_from_a_whole_page(rt: HostRuntime) -> Result<(), Fail> {
+    let alloc = rt.alloc();
+    let module = listener(alloc)?;
+    let page = vec![in alloc; 7u8; 65_536]?;
+    let page = page.as_slice();
+    assert_eq!(rt; pages_from(alloc, module.as_slice(), 1, page)?, Some(1));
+    assert_eq!(rt; pages_from(alloc, module.as_slice(), 1, &page[1..])?, None);
     Ok(())
 }
