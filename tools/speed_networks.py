@@ -5,7 +5,8 @@
 
 Eight nodes on each bus send a frame of eight bytes each at a period of their own, at a load of about a sixth of a bus of
 500,000 bit/s, for 6 and for 60 seconds. A line tells the events, the least processor time of some runs, microseconds
-an event, and the greatest memory.
+an event, and the greatest memory. Then what a call of a guest that does nothing takes, with all that the session around
+it does: from the difference between 1 and 31 listeners to the same 10,000 frames.
 """
 import os
 import subprocess
@@ -19,6 +20,7 @@ import operations  # noqa: E402
 from folder_text import Network, Unit  # noqa: E402
 
 RUNS = 3
+CALLS = 7  # of a listener to which a frame comes: a step, event mode, clock, bytes, clock asked, update, step mode
 
 
 def network(seconds):
@@ -31,6 +33,17 @@ def network(seconds):
         period = 100000 + 173 * node  # in ten-millionths of a second
         unit = Unit(f"unit_{node}", kit_guests.sender(operations.transmit(text), period, 10 ** 7), 1, True)
         made.node(unit, node % 4)
+    return made
+
+
+def listeners(count):
+    """A node that sends a frame each millisecond for ten seconds, and so many that listen."""
+    made = Network(10 ** 9, 10 ** 10, events=10 ** 8)
+    made.bus(500000)
+    sender = kit_guests.sender(operations.transmit(b"100#"), 1, 1000)
+    made.node(Unit("sender", sender, 1, True), 0)
+    for node in range(count):
+        made.node(Unit(f"listener_{node}", kit_guests.listener(), 1, False), 0)
     return made
 
 
@@ -52,10 +65,21 @@ def measure(program, seconds):
               f"{least / events * 1e6:.2f} microseconds an event, at most {memory} MiB", flush=True)
 
 
+def measure_calls(program):
+    least = []
+    for count in (1, 31):
+        with tempfile.TemporaryDirectory() as folder:
+            listeners(count).write(folder)
+            least.append(min(took(program, folder)[0] for _ in range(RUNS)))
+    each = (least[1] - least[0]) / (30 * 10000 * CALLS)
+    print(f"a call of a guest that does nothing: {each * 1e9:.0f} nanoseconds", flush=True)
+
+
 def main():
     program = os.path.realpath(sys.argv[1] if len(sys.argv) > 1 else os.path.join(HERE, "../crates/bench/out/bench"))
     for seconds in (6, 60):
         measure(program, seconds)
+    measure_calls(program)
 
 
 if __name__ == "__main__":
