@@ -6,8 +6,8 @@ use Rattle.bench_outside.specs.Pieces.{WritesAll}
 use Rattle.world_run.proofs.running.run.Given as goal
 
 -- The lines that are written and those that are left are the whole log.
-abbrev pub invariant-loop-world : goal.invariant-loop-world
-invariant-loop-world g l = record {
+abbrev pub invariant-loop-event : goal.invariant-loop-event
+invariant-loop-event g l = record {
   goes_on : l.world.failed ≡ false;
   few : l.world.network.events + l.left ≤ l.world.plan.events;
   log : (so_far : List Line) × WritesAll g.O.Sink l.fn.out l.out (map line_text so_far)
@@ -18,5 +18,5 @@ invariant-loop-world g l = record {
   kept : g.O.Sink.faults l.out ≡ g.O.Sink.faults l.fn.out;
 }
 
-abbrev pub decreases-loop-world : goal.decreases-loop-world
-decreases-loop-world g l = l.left
+abbrev pub decreases-loop-event : goal.decreases-loop-event
+decreases-loop-event g l = l.left
