@@ -12,6 +12,7 @@ import os
 import subprocess
 import sys
 import tempfile
+import time
 
 HERE = os.path.dirname(os.path.realpath(__file__))
 sys.path.insert(0, os.path.join(HERE, "compare"))
@@ -47,11 +48,27 @@ def listeners(count):
     return made
 
 
+def high_water(process, program):
+    """The greatest memory of a process so far in KiB, 0 where it isn't this program yet."""
+    try:
+        if os.readlink(f"/proc/{process}/exe") != program:
+            return 0
+        with open(f"/proc/{process}/status", encoding="ascii") as file:
+            return max(int(line.split()[1]) for line in file if line.startswith("VmHWM"))
+    except (OSError, ValueError):
+        return 0
+
+
 def took(program, folder):
-    """Seconds of processor time of a run, and the greatest memory of it in MiB."""
+    """Seconds of processor time of a run, and the greatest memory of it in MiB, as it was seen each 20 milliseconds."""
     child = subprocess.Popen([program, "run", folder], stdout=subprocess.DEVNULL, stderr=subprocess.DEVNULL)
-    _, _, used = os.wait4(child.pid, 0)
-    return used.ru_utime + used.ru_stime, used.ru_maxrss // 1024
+    memory = 0
+    while True:
+        ended, _, used = os.wait4(child.pid, os.WNOHANG)
+        if ended:
+            return used.ru_utime + used.ru_stime, memory // 1024
+        memory = max(memory, high_water(child.pid, program))
+        time.sleep(0.02)
 
 
 def measure(program, seconds):
