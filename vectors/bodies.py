@@ -3,8 +3,8 @@
 
 Each row is written out by hand, with the rule and a mark before the instruction that breaks it; `first_failing` finds
 the same once more, after the algorithm of the standard's appendix (7.3), and both must agree. Nothing is taken from
-the Rattle crates. Run in this folder: it writes the table bodies.txt and the same rows for the test of the crate
-body_table, ../crates/body_table/src/bodies_table.rt.
+the Rattle crates. Run in this folder: it writes the cases cases/module_cases/bodies.txt, and write_cases.py what the program
+of cases then reads and must print.
 """
 import re
 
@@ -572,49 +572,23 @@ def tables():
         name, source, rule = re.fullmatch(r"(.*?):( .*) = (.*)", line).groups()
         m, mark = of_body(source)
         rows.append(row(name, m, None if rule == "valid" else (rule, 1, mark)))
-    modules = [row(name, {**base(), **parts}, expected) for name, parts, expected in MODULES]
-    for at in range(0, len(modules), 15):
-        out["modules_%d" % (at // 15 + 1)] = modules[at : at + 15]
+    out["modules"] = [row(name, {**base(), **parts}, expected) for name, parts, expected in MODULES]
     return out
 
 
-HEAD = "# name: bytes (UNIT*TIMES is a run) = the first rule that fails, its place and its instruction, or valid\n"
-
-TEST_HEAD = """//! Modules, and the first rule that fails in each; made by vectors/bodies.py, and not by the validator.
-
-/// A module, and what is found in it.
-#[derive(Clone, Copy)]
-pub struct Row {
-    /// What it is.
-    pub name: &'static str,
-    /// Runs of bytes in hexadecimal, each with how many times it stands there, if more than once.
-    pub bytes: &'static str,
-    /// The first rule that fails, with its place and its instruction, or `valid`.
-    pub found: &'static str,
-}
-"""
-
-ROW = """        Row {
-            name: "%s",
-            bytes: "%s",
-            found: "%s",
-        },
+HEAD = """# Modules from vectors/bodies.py: their bytes (UNIT*TIMES is a run), and the first rule that fails with its place and its
+# instruction, or valid.
 """
 
 
 def main():
     groups = tables()
-    with open("bodies.txt", "w") as out:
+    with open("cases/module_cases/bodies.txt", "w") as out:
         out.write(HEAD)
-        for rows in groups.values():
-            out.writelines("%s: %s = %s\n" % row for row in rows)
-    with open("../crates/body_table/src/bodies_table.rt", "w") as out:
-        out.write(TEST_HEAD)
         for group, rows in groups.items():
-            out.write("\n/// Rows: %s.\n" % group.replace("_", " "))
-            out.write("pub fn %s() -> [Row; %d] {\n    [\n" % (group, len(rows)))
-            out.writelines(ROW % row for row in rows)
-            out.write("    ]\n}\n")
+            for name, data, found in rows:
+                out.write("# %s: %s\n" % (group.replace("_", " "), name))
+                out.write("valid %s = %s\n" % (data, found))
     print(sum(map(len, groups.values())), "modules")
 
 

@@ -2,13 +2,16 @@
 """Descriptions, each wrong in one way, and their refusals; some are accepted.
 
 Each row changes one place of a description of two terminals. What it is refused for was written down by
-hand from docs/DESCRIPTION.md, and is compared with a second reading of that page, `refusal` below, over
-Python's own TOML reader. Nothing is taken from the Rattle crates. Run in this folder: it writes
-descriptions.txt and the same rows for the test, ../crates/tried_descriptions/src/rows.rt.
+hand from docs/DESCRIPTION.md, and is compared with a second reading of that page, `checked` below, over
+Python's own TOML reader, which also tells what an accepted one says. Nothing is taken from the Rattle crates.
+Run in this folder: it writes cases/network_cases/descriptions.txt.
 """
 
 import re
 import tomllib
+
+import case_texts
+from case_texts import NOTATION, Refused
 
 GATE = """fmiVersion = "3.0"
 modelName = "gate"
@@ -206,9 +209,50 @@ WHOLE = [
     ("a clock behind a bad terminal comes first", 'Terminal = 1\n' + HEAD + "[[Clock]]\n", "Clock.name", 0),
 ]
 
+# what is long, or has long numbers
+MEBIBYTE = 2**20
+END = "Tx_Clock = 6\n"
+FILLED = END + "\n" * (MEBIBYTE - len(GATE.encode()))
+LONG = [
+    ("1 MiB of nested arrays", GATE, "a = " + "[" * (MEBIBYTE - 4), "Toml", 0),
+    ("empty lines up to 1 MiB", END, FILLED, *FINE),
+    ("a byte over 1 MiB", END, FILLED + "\n", "Size", MEBIBYTE),
+    ("a key twice, far apart", END, END + 'name = "C"\n', "Toml", 0),
+    ("the first Binary.maxSize is a float of 30 digits", "maxSize = 300", "maxSize = 300.000000000000000000000000000", "Binary.maxSize", 0),
+]
 
-class Refused(Exception):
-    pass
+
+def clock(reference, causality, interval="triggered"):
+    text = f'[[Clock]]\nname = "c"\nvalueReference = {reference}\ncausality = "{causality}"\n'
+    return text + f'intervalVariability = "{interval}"\n'
+
+
+def binary(number):
+    """Binary `number` counts down from the greatest reference."""
+    text = f'[[Binary]]\nname = "b"\nvalueReference = {2**32 - 1 - number}\ncausality = "{WAYS[number % 2]}"\n'
+    return text + f"clocks = [{number % 8}]\nmaxSize = 65536\n"
+
+
+def terminal(number):
+    own = [("Rx", 2 * number), ("Tx", 2 * number + 1)]
+    text = "".join(f"{way}_Data = {2**32 - 1 - place}\n{way}_Clock = {place}\n" for way, place in own)
+    return f'[[Terminal]]\nname = "t{number}"\n' + text
+
+
+# 56 triggered clocks, 8 countdown clocks, 64 binaries and 4 terminals
+WAYS = ["input", "output"]
+TRIGGERED = [clock(place, WAYS[place % 2]) for place in range(56)]
+COUNTDOWN = [clock(place, "input", "countdown") for place in range(56, 64)]
+PARTS = TRIGGERED + COUNTDOWN + [binary(place) for place in range(64)] + [terminal(place) for place in range(4)]
+CROWD = 'fmiVersion = "3.0"\nmodelName = "m"\ninstantiationToken = ""\n[CoSimulation]\nmodelIdentifier = "m"\n'
+CROWD += "hasEventMode = true\n" + "".join(PARTS)
+CROWDED = [
+    ("64 clocks, 8 of them countdown clocks, 64 binaries and 4 terminals", CROWD, CROWD, *FINE),
+    ("a ninth countdown clock", TRIGGERED[55], clock(55, "input", "countdown"), "Clock.intervalVariability", 63),
+    ("65 clocks", TRIGGERED[55], TRIGGERED[55] + clock(64, "input"), "Clock", 0),
+    ("65 binaries", binary(63), binary(63) + binary(64), "Binary", 0),
+    ("5 terminals", terminal(3), terminal(3) + terminal(4), "Terminal", 0),
+]
 
 
 def number(value, low, high):
@@ -219,8 +263,8 @@ def identifier(value):
     return type(value) is str and re.fullmatch(r"[A-Za-z0-9_]{1,64}", value) is not None
 
 
-def refusal(text):
-    """The field and the place of the first check that fails, by the order of the page."""
+def checked(text):
+    """What a description says, by the order of the page; refused where a check fails."""
 
     def check(holds, field, place=0):
         if not holds:
@@ -231,112 +275,82 @@ def refusal(text):
         check(type(array) is list and all(type(row) is dict for row in array) and low <= len(array) <= high, name)
         return list(enumerate(array))
 
+    check(len(text.encode()) <= 1 << 20, "Size", 1 << 20)
     try:
-        check(len(text.encode()) <= 1 << 20, "Size", 1 << 20)
-        try:
-            document = tomllib.loads(text)
-        except tomllib.TOMLDecodeError:
-            raise Refused("Toml", 0)
-        # tomllib takes integers of every size, TOML asks for 64 bits
-        if re.search(r"= \d{20,}$", text, re.M):
-            raise Refused("Toml", 0)
-        version = document.get("fmiVersion")
-        check(type(version) is str and version.startswith("3.0"), "fmiVersion")
-        check(type(document.get("modelName")) is str, "modelName")
-        check(type(document.get("instantiationToken")) is str, "instantiationToken")
-        unit = document.get("CoSimulation")
-        check(type(unit) is dict, "CoSimulation")
-        check(identifier(unit.get("modelIdentifier")), "modelIdentifier")
-        check(unit.get("hasEventMode") is True, "hasEventMode")
+        document = tomllib.loads(text)
+    except (tomllib.TOMLDecodeError, RecursionError):
+        raise Refused("Toml", 0)
+    # tomllib takes integers of every size, TOML asks for 64 bits
+    if re.search(r"= \d{20,}$", text, re.M):
+        raise Refused("Toml", 0)
+    version = document.get("fmiVersion")
+    check(type(version) is str and version.startswith("3.0"), "fmiVersion")
+    check(type(document.get("modelName")) is str, "modelName")
+    check(type(document.get("instantiationToken")) is str, "instantiationToken")
+    unit = document.get("CoSimulation")
+    check(type(unit) is dict, "CoSimulation")
+    check(identifier(unit.get("modelIdentifier")), "modelIdentifier")
+    check(unit.get("hasEventMode") is True, "hasEventMode")
 
-        clocks, countdown = {}, 0
-        for place, row in rows("Clock", 0, 64):
-            check(type(row.get("name")) is str, "Clock.name", place)
-            reference = row.get("valueReference")
-            check(number(reference, 0, 2**32 - 1) and reference not in clocks, "Clock.valueReference", place)
-            check(row.get("causality") in ("input", "output"), "Clock.causality", place)
-            interval = row.get("intervalVariability")
-            check(interval in ("triggered", "countdown"), "Clock.intervalVariability", place)
-            if interval == "countdown":
-                countdown += 1
-                check(row["causality"] == "input" and countdown <= 8, "Clock.intervalVariability", place)
-            clocks[reference] = (row["causality"], interval)
+    clocks, countdown = {}, 0
+    for place, row in rows("Clock", 0, 64):
+        check(type(row.get("name")) is str, "Clock.name", place)
+        reference = row.get("valueReference")
+        check(number(reference, 0, 2**32 - 1) and reference not in clocks, "Clock.valueReference", place)
+        check(row.get("causality") in ("input", "output"), "Clock.causality", place)
+        interval = row.get("intervalVariability")
+        check(interval in ("triggered", "countdown"), "Clock.intervalVariability", place)
+        if interval == "countdown":
+            countdown += 1
+            check(row["causality"] == "input" and countdown <= 8, "Clock.intervalVariability", place)
+        clocks[reference] = (row["causality"], interval)
 
-        binaries = {}
-        for place, row in rows("Binary", 0, 64):
-            check(type(row.get("name")) is str, "Binary.name", place)
-            reference = row.get("valueReference")
-            new = number(reference, 0, 2**32 - 1) and reference not in clocks and reference not in binaries
-            check(new, "Binary.valueReference", place)
-            causality = row.get("causality")
-            check(causality in ("input", "output"), "Binary.causality", place)
-            own = row.get("clocks")
-            one = type(own) is list and len(own) == 1 and number(own[0], 0, 2**32 - 1)
-            check(one and clocks.get(own[0]) == (causality, "triggered"), "Binary.clocks", place)
-            check(number(row.get("maxSize"), 256, 65536), "Binary.maxSize", place)
-            binaries[reference] = (causality, own[0])
+    binaries = {}
+    for place, row in rows("Binary", 0, 64):
+        check(type(row.get("name")) is str, "Binary.name", place)
+        reference = row.get("valueReference")
+        new = number(reference, 0, 2**32 - 1) and reference not in clocks and reference not in binaries
+        check(new, "Binary.valueReference", place)
+        causality = row.get("causality")
+        check(causality in ("input", "output"), "Binary.causality", place)
+        own = row.get("clocks")
+        one = type(own) is list and len(own) == 1 and number(own[0], 0, 2**32 - 1)
+        check(one and clocks.get(own[0]) == (causality, "triggered"), "Binary.clocks", place)
+        check(number(row.get("maxSize"), 256, 65536), "Binary.maxSize", place)
+        binaries[reference] = (causality, own[0], row["maxSize"])
 
-        names, used = set(), set()
-        for place, row in rows("Terminal", 1, 4):
-            name = row.get("name")
-            check(identifier(name) and name not in names, "Terminal.name", place)
-            mine = set()
-            for way, causality in (("Rx", "input"), ("Tx", "output")):
-                variable = row.get(way + "_Data")
-                found = binaries.get(variable) if number(variable, 0, 2**32 - 1) else None
-                check(found and found[0] == causality and variable not in used, f"Terminal.{way}_Data", place)
-                clock = row.get(way + "_Clock")
-                its = number(clock, 0, 2**32 - 1) and clock == found[1] and clock not in used
-                check(its, f"Terminal.{way}_Clock", place)
-                mine |= {variable, clock}
-            names.add(name)
-            used |= mine
-        return FINE
-    except Refused as refused:
-        return refused.args
+    told = f"{unit['modelIdentifier']} countdown {countdown}"
+    names, used = set(), set()
+    for place, row in rows("Terminal", 1, 4):
+        name = row.get("name")
+        check(identifier(name) and name not in names, "Terminal.name", place)
+        told += " " + name
+        mine = set()
+        for way, causality in (("Rx", "input"), ("Tx", "output")):
+            variable = row.get(way + "_Data")
+            found = binaries.get(variable) if number(variable, 0, 2**32 - 1) else None
+            check(found and found[0] == causality and variable not in used, f"Terminal.{way}_Data", place)
+            clock = row.get(way + "_Clock")
+            its = number(clock, 0, 2**32 - 1) and clock == found[1] and clock not in used
+            check(its, f"Terminal.{way}_Clock", place)
+            mine |= {variable, clock}
+            told += f":{found[2]}"
+        names.add(name)
+        used |= mine
+    return told
 
 
-def literal(text):
-    return '"' + text.replace("\\", "\\\\").replace('"', '\\"').replace("\n", "\\n") + '"'
+HEADING = """# Descriptions from vectors/descriptions.py: the first check that fails and its place, or the name of the module, how many
+# countdown clocks there are, and each terminal with the greatest lengths of its input and its output.
+"""
 
 
 def main():
-    listed = []
-    for what, old, new, field, place in ROWS:
-        assert GATE.count(old) == 1, what
-        listed.append((what, old, new, field, place))
-    for what, text, field, place in WHOLE:
-        listed.append((what, GATE, text, field, place))
-    for what, old, new, field, place in listed:
-        found = refusal(GATE.replace(old, new))
-        assert found == (field, place), (what, found, field, place)
-    with open("descriptions.txt", "w") as out:
-        out.write("# what is tried, and the field and the place of its refusal (- where it is accepted)\n")
-        for what, old, new, field, place in listed:
-            out.write(f"{what}: {field + ' ' + str(place) if field else '-'}\n")
-    with open("../crates/tried_descriptions/src/rows.rt", "w") as out:
-        out.write("//! Changes of a description, with what each is refused for; made by vectors/descriptions.py.\n\n")
-        out.write("/// A description of two terminals and a countdown clock.\npub const GATE: &str =\n    ")
-        out.write(literal(GATE) + ";\n\n")
-        out.write("/// A change of the description.\npub struct Row {\n")
-        out.write("    /// What is tried.\n    pub what: &'static str,\n")
-        out.write("    /// The text that is changed, and what stands in its place.\n")
-        out.write("    pub old: &'static str,\n    pub new: &'static str,\n")
-        out.write("    /// The field of the refusal, empty where the description is accepted, and its place.\n")
-        out.write("    pub field: &'static str,\n    pub place: u64,\n}\n\n")
-        parts = []
-        for name, about, rows in (
-            ("CHANGES", "One place is changed; each change is tried alone.", listed[: len(ROWS)]),
-            ("WHOLE", "The whole text is another one.", listed[len(ROWS) :]),
-        ):
-            lines = [f"/// {about}", f"pub const {name}: [Row; {len(rows)}] = ["]
-            for what, old, new, field, place in rows:
-                texts = ["GATE" if text == GATE else literal(text) for text in (old, new)]
-                lines += ["    Row {", f"        what: {literal(what)},", f"        old: {texts[0]},"]
-                lines += [f"        new: {texts[1]},", f"        field: {literal(field)},", f"        place: {place},"]
-                lines += ["    },"]
-            parts.append("\n".join(lines + ["];", ""]))
-        out.write("\n".join(parts))
+    whole = [(what, GATE, text, field, place) for what, text, field, place in WHOLE]
+    lines = [*case_texts.cases("description", checked, GATE, ROWS + whole + LONG)]
+    lines += ["# bytes behind it that are no UTF-8, in hexadecimal", "description_behind 2320ff0a = Toml 0"]
+    lines += case_texts.cases("description", checked, CROWD, CROWDED)
+    case_texts.write("descriptions", [*HEADING.splitlines(), *NOTATION.splitlines(), *lines])
 
 
 if __name__ == "__main__":

@@ -2,8 +2,8 @@
 """Lengths and times of frames on the wire, after the bit lists of ISO 11898-1.
 
 Each frame's bits are written out one by one, stuffed, and their times are added up. Nothing is
-taken from the Rattle crate. Run in this folder: it writes the table frames.txt and the same numbers
-for the crate's test, ../crates/frame_bits/src/vectors.rt.
+taken from the Rattle crate. Run in this folder: it writes the cases cases/frame_cases/wire.txt, and
+write_cases.py what the program of cases then reads and must print.
 """
 
 NOMINAL, FAST = 2000, 500  # ticks of a nominal bit and of a data bit
@@ -122,31 +122,28 @@ def cases():
             yield 0x1FFFFFFF, True, kind, size, 0x1F, 0
 
 
+HEAD = """# Frames from vectors/frames.py. `wire`: stuffed bits, wire bits, duration, end of the ACK slot, end of the bit in the
+# middle (a nominal bit has %d ticks, a data bit %d). `bits`: from SOF to the last CRC bit, or of an FD frame to the last data
+# bit, with their stuff bits; 1 is recessive.
+# frame_bits: frames have the lengths, times and bits of the table
+""" % (NOMINAL, FAST)
+
+
 def main():
-    table, rows = [], []
-    for identifier, extended, kind, size, first, more in sorted(set(cases())):
-        data = [(first + more * place) % 256 for place in range(size)]
-        bits, ticks = frame(identifier, extended, kind, data)
-        wire, ack = len(ticks), len(ticks) - 9
-        half = wire // 2
-        numbers = [len(bits), wire, sum(ticks), sum(ticks[: ack + 1]), sum(ticks[: half + 1])]
-        table.append("%s %s" % (text(identifier, extended, kind, data), " ".join(map(str, numbers))))
-        rows.append([identifier, int(extended), kind, size, first, more] + numbers)
-    head = "frame, stuffed bits, wire bits, duration, end of the ACK slot, end of the bit in the middle"
-    with open("frames.txt", "w") as out:
-        out.write("# %s (nominal bit %d ticks, data bit %d)\n" % (head, NOMINAL, FAST))
-        out.write("\n".join(table) + "\n")
-    with open("../crates/frame_bits/src/vectors.rt", "w") as out:
-        out.write("//! Frames with their lengths and times; made by vectors/frames.py, and not by this crate.\n\n")
-        out.write("/// Identifier, extended format, kind, number of bytes, first byte and what each next byte is more;\n")
-        out.write("/// then: %s.\n" % head.replace("frame, ", ""))
-        out.write("pub const FRAMES: [[u32; 11]; %d] = [\n" % len(rows))
-        for row in rows:
-            numbers = ", ".join(map(str, row))
-            # as rt fmt lays out
-            out.write("    [%s],\n" % numbers if len(numbers) <= 60 else "    [\n        %s,\n    ],\n" % numbers)
-        out.write("];\n")
-    print(len(rows), "frames")
+    frames = sorted(set(cases()))
+    with open("cases/frame_cases/wire.txt", "w") as out:
+        out.write(HEAD)
+        for identifier, extended, kind, size, first, more in frames:
+            data = [(first + more * place) % 256 for place in range(size)]
+            bits, ticks = frame(identifier, extended, kind, data)
+            wire, ack = len(ticks), len(ticks) - 9
+            half = wire // 2
+            numbers = [len(bits), wire, sum(ticks), sum(ticks[: ack + 1]), sum(ticks[: half + 1])]
+            name = text(identifier, extended, kind, data)
+            out.write("wire %s = %s\n" % (name, " ".join(map(str, numbers))))
+            out.write("bits %s = %s\n" % (name, "".join(map(str, bits))))
+    print(len(frames), "frames")
 
 
-main()
+if __name__ == "__main__":
+    main()

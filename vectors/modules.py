@@ -2,8 +2,8 @@
 """WebAssembly modules, and what reading each of them gives, after the binary format of version 1.0.
 
 Each module is written out by hand, byte by byte, with the place of its first fault marked in it, or with its
-parts. Nothing is taken from the Rattle crates. Run in this folder: it writes the table modules.txt and the same
-rows for the test of the crate module_table, ../crates/module_table/src/modules_table.rt.
+parts. Nothing is taken from the Rattle crates. Run in this folder: it writes the cases cases/module_cases/modules.txt,
+and write_cases.py what the program of cases then reads and must print.
 
 A module is written as bytes in hexadecimal; `{ .. }` is a size, in as few bytes as it needs, and so many bytes;
 `BYTES*N` is a run; `@` marks the place of the fault; round brackets only help the eye; `MODULE` is the header,
@@ -229,7 +229,7 @@ each operation on i32: MODULE BODY{ 00 67 68 69 6A 6B 6C 6D 6E 6F 70 71 72 73 74
 each operation on i64: MODULE BODY{ 00 79 7A 7B 7C 7D 7E 7F 80 81 82 83 84 85 86 87 88 89 8A A7 AC AD 0B } = functions 1 bodies 0:22
 three functions: MODULE 03 { 03 00 01 00 } 0A { 03 { 00 0B } { 01 02 7F 01 0B } { 00 01 01 0B } } = functions 3 bodies 0:1 2:2 0:3
 every section: MODULE 01 { 01 60 01 7F 01 7F } 02 { 00 } 03 { 01 00 } 04 { 01 70 00 01 } 05 { 01 01 01 02 } 06 { 01 7E 01 42 05 0B } 07 { 02 ( 01 66 00 00 ) ( 01 6D 02 00 ) } 08 { 00 } 09 { 01 00 41 00 0B 01 00 } 0A { 01 { 01 01 7F 20 00 0B } } 0B { 01 00 41 00 0B 03 61 62 63 } 00 { 04 6E 61 6D 65 01 02 } = types 1 functions 1 tables 1 memories 1 globals 1 exports 2 start 1 elements 1 segments 1 bodies 1:2
-# long_rows
+# long_modules
 a block too deep: MODULE BODY{ 00 0240*1024 @ 02 40 0B*1026 } = Limit
 an if too deep, before its type: MODULE BODY{ 00 0340*1024 @ 04 7D 0B*1026 } = Limit
 code that is cut where it is deepest: MODULE BODY{ 00 0240*1024 @ } = Short
@@ -255,44 +255,19 @@ def tables():
     return out
 
 
-HEAD = "# name: bytes (UNIT*TIMES is a run) = the first fault and its place, or the parts of the module; of each body\n"
-HEAD += "# its locals and its instructions, with else and end\n"
-
-TEST_HEAD = """//! Modules, and what reading gives; made by vectors/modules.py, and not by the reader.
-
-/// A module, and what reading it gives.
-#[derive(Clone, Copy)]
-pub struct Row {
-    /// What it is.
-    pub name: &'static str,
-    /// Runs of bytes in hexadecimal, each with how many times it stands there, if more than once.
-    pub bytes: &'static str,
-    /// The first fault and its place, or the parts that are there.
-    pub read: &'static str,
-}
-"""
-
-ROW = """        Row {
-            name: "%s",
-            bytes: "%s",
-            read: "%s",
-        },
+HEAD = """# Modules from vectors/modules.py: their bytes (UNIT*TIMES is a run), and the first fault with its place, or how many parts
+# there are; of each body its locals and its instructions, with else and end.
 """
 
 
 def main():
     groups = tables()
-    with open("modules.txt", "w") as out:
+    with open("cases/module_cases/modules.txt", "w") as out:
         out.write(HEAD)
-        for rows in groups.values():
-            out.writelines("%s: %s = %s\n" % row for row in rows)
-    with open("../crates/module_table/src/modules_table.rt", "w") as out:
-        out.write(TEST_HEAD)
         for group, rows in groups.items():
-            out.write("\n/// Rows: %s.\n" % group.replace("_", " "))
-            out.write("pub fn %s() -> [Row; %d] {\n    [\n" % (group, len(rows)))
-            out.writelines(ROW % row for row in rows)
-            out.write("    ]\n}\n")
+            for name, data, read in rows:
+                out.write("# %s: %s\n" % (group.replace("_", " "), name))
+                out.write("%s = %s\n" % (("read " + data).rstrip(), read))
     print(sum(map(len, groups.values())), "modules")
 
 

@@ -2,13 +2,16 @@
 """Network files, each wrong in one way, and their refusals; some are accepted.
 
 Each row changes one place of a network of two buses, three nodes and two errors. What it is refused for was
-written down by hand from docs/NETWORKS.md, and is compared with a second reading of that page, `refusal`
-below, over Python's own TOML reader. Nothing is taken from the Rattle crates. Run in this folder: it writes
-networks.txt and the same rows for the test, ../crates/tried_networks/src/rows.rt.
+written down by hand from docs/NETWORKS.md, and is compared with a second reading of that page, `checked`
+below, over Python's own TOML reader, which also tells what an accepted one says. Nothing is taken from the Rattle
+crates. Run in this folder: it writes cases/network_cases/networks.txt.
 """
 
 import re
 import tomllib
+
+import case_texts
+from case_texts import NOTATION, Refused
 
 CAR = """resolution = 1000000000
 stop = 2000000000
@@ -75,8 +78,7 @@ def node(number):
     return f'[[node]]\nname = "n{number}"\nfmu = "e"\nbus = {{ CAN = "body" }}\n'
 
 
-def error(number):
-    return f'[[error]]\nbus = "body"\nattempt = {number + 1}\nkind = 1\nby = "sender"\nbit = 0\n'
+ERROR = '[[error]]\nbus = "body"\nattempt = 1\nkind = 1\nby = "sender"\nbit = 0\n'
 
 
 # what is wrong, the old text, the new text, and the field and the place of the refusal
@@ -165,8 +167,8 @@ ROWS = [
     ("node.bus with a key that is no name", 'bus = { CAN = "body" }', 'bus = { "C A N" = "body" }', *FINE),
     ("node.bus of the last node", 'bus = { CAN = "drive_2" }', 'bus = { CAN = "gate" }', "node.bus", 2),
     ("no error", ERRORS, "", *FINE),
-    ("1,024 errors", LAST, "".join(error(n) for n in range(1023)), *FINE),
-    ("1,025 errors", LAST, "".join(error(n) for n in range(1024)), "error", 0),
+    ("1,024 errors", LAST, ERROR * 1023, *FINE),
+    ("1,025 errors", LAST, ERROR * 1024, "error", 0),
     ("error is a table", ERRORS, LAST.replace("[[", "[").replace("]]", "]"), "error", 0),
     ("error.bus is absent", LAST, LAST.replace('bus = "drive_2"\n', ""), "error.bus", 1),
     ("error.bus names no bus", LAST, LAST.replace('"drive_2"', '"gate"'), "error.bus", 1),
@@ -217,10 +219,6 @@ WHOLE = [
 ]
 
 
-class Refused(Exception):
-    pass
-
-
 def number(value, low, high):
     return type(value) is int and low <= value <= high
 
@@ -229,8 +227,8 @@ def named(value):
     return type(value) is str and re.fullmatch(r"[a-z0-9_]{1,32}", value) is not None
 
 
-def refusal(text):
-    """The field and the place of the first check that fails, by the order of the page."""
+def checked(text):
+    """What a network file says, by the order of the page; refused where a check fails."""
 
     def check(holds, field, place=0):
         if not holds:
@@ -244,103 +242,60 @@ def refusal(text):
     def timed(value):
         return number(value, 1, 2**32 - 1) and resolution % value == 0
 
+    check(len(text.encode()) <= 1 << 20, "Size", 1 << 20)
     try:
-        check(len(text.encode()) <= 1 << 20, "Size", 1 << 20)
-        try:
-            document = tomllib.loads(text)
-        except tomllib.TOMLDecodeError:
-            raise Refused("Toml", 0)
-        # tomllib takes integers of every size, TOML asks for 64 bits
-        if re.search(r"= \d{20,}$", text, re.M):
-            raise Refused("Toml", 0)
-        resolution = document.get("resolution")
-        check(number(resolution, 1, 10**12), "resolution")
-        check(number(document.get("stop"), 0, 2**62), "stop")
-        check(number(document.get("events", 10**6), 1, 10**8), "events")
-        check(number(document.get("fuel", 10**6), 1, 10**9), "fuel")
+        document = tomllib.loads(text)
+    except tomllib.TOMLDecodeError:
+        raise Refused("Toml", 0)
+    # tomllib takes integers of every size, TOML asks for 64 bits
+    if re.search(r"= \d{20,}$", text, re.M):
+        raise Refused("Toml", 0)
+    resolution = document.get("resolution")
+    check(number(resolution, 1, 10**12), "resolution")
+    check(number(document.get("stop"), 0, 2**62), "stop")
+    check(number(document.get("events", 10**6), 1, 10**8), "events")
+    check(number(document.get("fuel", 10**6), 1, 10**9), "fuel")
 
-        buses = []
-        for place, row in rows("bus", 1, 4):
-            name = row.get("name")
-            check(named(name) and name not in buses, "bus.name", place)
-            check(timed(row.get("rate")), "bus.rate", place)
-            check("fd_rate" not in row or timed(row["fd_rate"]), "bus.fd_rate", place)
-            buses.append(name)
+    buses = []
+    for place, row in rows("bus", 1, 4):
+        name = row.get("name")
+        check(named(name) and name not in buses, "bus.name", place)
+        check(timed(row.get("rate")), "bus.rate", place)
+        check("fd_rate" not in row or timed(row["fd_rate"]), "bus.fd_rate", place)
+        buses.append(name)
 
-        nodes = {}
-        for place, row in rows("node", 1, 32):
-            name, unit, terminals = row.get("name"), row.get("fmu"), row.get("bus")
-            check(named(name) and name not in nodes and name != "sender", "node.name", place)
-            check(type(unit) is str and re.fullmatch(r"[A-Za-z0-9_]{1,64}", unit), "node.fmu", place)
-            check(type(terminals) is dict and len(terminals) > 0, "node.bus", place)
-            on = list(terminals.values())
-            check(all(type(b) is str and b in buses for b in on) and len(set(on)) == len(on), "node.bus", place)
-            nodes[name] = on
+    nodes = {}
+    for place, row in rows("node", 1, 32):
+        name, unit, terminals = row.get("name"), row.get("fmu"), row.get("bus")
+        check(named(name) and name not in nodes and name != "sender", "node.name", place)
+        check(type(unit) is str and re.fullmatch(r"[A-Za-z0-9_]{1,64}", unit), "node.fmu", place)
+        check(type(terminals) is dict and len(terminals) > 0, "node.bus", place)
+        on = list(terminals.values())
+        check(all(type(b) is str and b in buses for b in on) and len(set(on)) == len(on), "node.bus", place)
+        nodes[name] = on
 
-        for place, row in rows("error", 0, 1024):
-            on = row.get("bus")
-            check(type(on) is str and on in buses, "error.bus", place)
-            check(number(row.get("attempt"), 1, 2**32), "error.attempt", place)
-            check(number(row.get("count", 1), 1, 2**32), "error.count", place)
-            check(number(row.get("kind"), 1, 4), "error.kind", place)
-            by = row.get("by")
-            check(type(by) is str and (by == "sender" or on in nodes.get(by, [])), "error.by", place)
-            check(number(row.get("bit"), 0, 1023), "error.bit", place)
-        return FINE
-    except Refused as refused:
-        return refused.args
+    for place, row in rows("error", 0, 1024):
+        on = row.get("bus")
+        check(type(on) is str and on in buses, "error.bus", place)
+        check(number(row.get("attempt"), 1, 2**32), "error.attempt", place)
+        check(number(row.get("count", 1), 1, 2**32), "error.count", place)
+        check(number(row.get("kind"), 1, 4), "error.kind", place)
+        by = row.get("by")
+        check(type(by) is str and (by == "sender" or on in nodes.get(by, [])), "error.by", place)
+        check(number(row.get("bit"), 0, 1023), "error.bit", place)
+    budgets = f"events {document.get('events', 10**6)} fuel {document.get('fuel', 10**6)}"
+    return f"{budgets} buses {len(buses)} nodes {len(nodes)} errors {len(document.get('error', []))}"
 
 
-def literal(text):
-    return '"' + text.replace("\\", "\\\\").replace('"', '\\"').replace("\n", "\\n") + '"'
-
-
-def write_rows(out, listed):
-    out.write("//! Changes of a network file, with what each is refused for; made by vectors/networks.py.\n\n")
-    out.write("/// A network of two buses, three nodes and two errors.\npub const CAR: &str =\n    ")
-    out.write(literal(CAR) + ";\n\n")
-    out.write("/// A change of the network file.\npub struct Row {\n")
-    out.write("    /// What is tried.\n    pub what: &'static str,\n")
-    out.write("    /// The text that is changed, and what stands in its place.\n")
-    out.write("    pub old: &'static str,\n    pub new: &'static str,\n")
-    out.write("    /// The field of the refusal, empty where the file is accepted, and its place.\n")
-    out.write("    pub field: &'static str,\n    pub place: u64,\n}\n\n")
-    # The rows stand in two lists, since a proof over all of them at once takes too long, as over texts of many errors:
-    # the test makes those itself.
-    changes = [row for row in listed[: len(ROWS)] if len(row[2]) < 10_000]
-    first = next(place for place, row in enumerate(changes) if row[3].startswith("node"))
-    parts = []
-    for name, about, rows in (
-        ("SETTINGS_AND_BUSES", "One place is changed, of the settings or a bus; each change is tried alone.", changes[:first]),
-        ("NODES_AND_ERRORS", "One place is changed, of a node or an error.", changes[first:]),
-        ("WHOLE", "The whole text is another one.", listed[len(ROWS) :]),
-    ):
-        lines = [f"/// {about}", f"pub const {name}: [Row; {len(rows)}] = ["]
-        for what, old, new, field, place in rows:
-            texts = ["CAR" if text == CAR else literal(text) for text in (old, new)]
-            lines += ["    Row {", f"        what: {literal(what)},", f"        old: {texts[0]},"]
-            lines += [f"        new: {texts[1]},", f"        field: {literal(field)},", f"        place: {place},"]
-            lines += ["    },"]
-        parts.append("\n".join(lines + ["];", ""]))
-    out.write("\n".join(parts))
+HEADING = """# Network files from vectors/networks.py: the first check that fails and its place, or the budgets and how many buses, nodes
+# and errors there are.
+"""
 
 
 def main():
-    listed = []
-    for what, old, new, field, place in ROWS:
-        assert CAR.count(old) == 1, (what, CAR.count(old))
-        listed.append((what, old, new, field, place))
-    for what, text, field, place in WHOLE:
-        listed.append((what, CAR, text, field, place))
-    for what, old, new, field, place in listed:
-        found = refusal(CAR.replace(old, new))
-        assert found == (field, place), (what, found, field, place)
-    with open("networks.txt", "w") as out:
-        out.write("# what is tried, and the field and the place of its refusal (- where it is accepted)\n")
-        for what, old, new, field, place in listed:
-            out.write(f"{what}: {field + ' ' + str(place) if field else '-'}\n")
-    with open("../crates/tried_networks/src/rows.rt", "w") as out:
-        write_rows(out, listed)
+    whole = [(what, CAR, text, field, place) for what, text, field, place in WHOLE]
+    lines = case_texts.cases("network", checked, CAR, ROWS + whole)
+    case_texts.write("networks", [*HEADING.splitlines(), *NOTATION.splitlines(), *lines])
 
 
 if __name__ == "__main__":

@@ -3,12 +3,14 @@
 
 Each operation is worked out on Python's integers from the standard's text: division and remainder by the
 mathematical quotient, shifts, rotations and counts on the written-out bits. Nothing is taken from the Rattle crates.
-Run in this folder: it writes the table numerics.txt and the same rows for the test of the crate number_table,
-../crates/number_table/src/rows.rt.
+Run in this folder: it writes the cases cases/module_cases/numbers.txt, and write_cases.py what the program of cases then
+reads and must print.
 
-A line is an opcode, its operands (the upper one last), and the result or the trap; numbers are hexadecimal.
+A case is an opcode, its operands (the upper one last), and the result or the trap; numbers are hexadecimal.
 """
 import random
+
+from bodies import NUMERIC
 
 
 def bits_of(number, width):
@@ -130,53 +132,37 @@ def rows():
         yield 0xAD, [a + HIGH], a  # i64.extend_i32_u
 
 
-def line(op, operands, result):
-    words = ["%02x" % op] + ["%x" % a for a in operands]
-    return " ".join(words + [result if isinstance(result, str) else "%x" % result])
+# The name of each instruction, for its reader.
+NAMES = {row[0]: name for name, row in NUMERIC.items()}
 
-
-HEAD = """//! Integer instructions and their results; made by vectors/numerics.py, and not by the crate that is tested.
-
-/// An instruction, and what it makes of operands.
-#[derive(Clone, Copy)]
-pub struct Row {
-    /// Its opcode.
-    pub op: u8,
-    /// Its operands with the upper one last, and the result or the trap, case by case; numbers are hexadecimal.
-    pub cases: &'static str,
-}
-"""
-
-ROW = """        Row {
-            op: 0x%02X,
-            cases: "%s",
-        },
+HEAD = """# Integer instructions from vectors/numerics.py: an opcode and its operands with the upper one last, and the result or the
+# trap; numbers are hexadecimal.
 """
 
 GROUPS = [
-    ("tests_counts_and_conversions", lambda op, operands: len(operands) == 1),
+    ("tests, counts and conversions", lambda op, operands: len(operands) == 1),
     ("comparisons", lambda op, operands: len(operands) == 2 and op < 0x67),
-    ("operations_on_i32", lambda op, operands: len(operands) == 2 and 0x67 < op < 0x79),
-    ("operations_on_i64", lambda op, operands: len(operands) == 2 and op >= 0x79),
+    ("operations on i32", lambda op, operands: len(operands) == 2 and 0x67 < op < 0x79),
+    ("operations on i64", lambda op, operands: len(operands) == 2 and op >= 0x79),
 ]
 
 
+def case(op, operands, result):
+    words = ["%02x" % op] + ["%x" % a for a in operands]
+    return "number %s = %s\n" % (" ".join(words), result if isinstance(result, str) else "%x" % result)
+
+
 def main():
-    cases, kinds = {}, {}
-    with open("numerics.txt", "w") as out:
-        for op, operands, result in rows():
-            words = ["%x" % a for a in operands] + [result if isinstance(result, str) else "%x" % result]
-            out.write("%02x %s\n" % (op, " ".join(words)))
-            cases.setdefault(op, []).append(" ".join(words))
-            kinds[op] = operands
-    with open("../crates/number_table/src/rows.rt", "w") as out:
+    cases = {}
+    for op, operands, result in rows():
+        cases.setdefault(op, []).append((op, operands, result))
+    with open("cases/module_cases/numbers.txt", "w") as out:
         out.write(HEAD)
         for name, belongs in GROUPS:
-            ops = [op for op in cases if belongs(op, kinds[op])]
-            out.write("\n/// Rows: %s.\n" % name.replace("_", " "))
-            out.write("pub fn %s() -> [Row; %d] {\n    [\n" % (name, len(ops)))
-            out.writelines(ROW % (op, ", ".join(cases[op])) for op in ops)
-            out.write("    ]\n}\n")
+            for op, found in cases.items():
+                if belongs(op, found[0][1]):
+                    out.write("# %s: %s\n" % (name, NAMES[op]))
+                    out.writelines(case(*row) for row in found)
     print(len(cases), "instructions,", sum(map(len, cases.values())), "cases")
 
 

@@ -4,6 +4,3 @@
 mod keys;
 
 pub use keys::{equal_keys_arbitrate_alike, key, smaller_key_wins};
-
-#[cfg(test)]
-mod tests;

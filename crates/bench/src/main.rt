@@ -3,28 +3,11 @@
 //! `run NET` runs the network of a folder and writes its log.
 #![tactic(auto)]
 
-mod calling;
-mod carrying;
-#[cfg(test)]
-mod heartbeat;
-mod laws;
-mod playing;
 mod process;
-mod refusals;
-mod reporting;
-#[cfg(test)]
-mod run_tests;
-mod running;
-mod status;
-mod telling;
-#[cfg(test)]
-mod tests;
-mod top;
-mod words;
 
 use bench_outside::{FileShelf, OutSink, SystemFiles};
+use bench_top::Status;
 use process::{bench_over, exit_of, words_of};
-use status::Status;
 use std::env;
 use std::process::ExitCode;
 

@@ -4,12 +4,11 @@ ghost use Rattle.std.specs.IoError.{error_kind};
 ghost use Rattle.std.specs.Process.{exit_status};
 ghost use Rattle.std.specs.Vec.Iter.{into_iter_items, into_iter_len};
 ghost use Rattle.bench_outside.specs.Causes.{Rose};
-ghost use Rattle.bench.specs.Words.{command_of};
-ghost use Rattle.bench.specs.Statuses.{code_of};
+ghost use Rattle.bench_top.specs.Words.{command_of};
+ghost use Rattle.bench_top.specs.Statuses.{code_of};
 
-use crate::status::Status;
-use crate::top::bench;
 use bench_outside::{OutSink, Shelf};
+use bench_top::{Status, bench};
 use std::alloc::{AllocError, Global};
 use std::env::Args;
 use std::io::{self, ErrorKind, Stderr, Stdout};

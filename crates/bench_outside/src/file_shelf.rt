@@ -47,7 +47,7 @@ impl<F: FileSystem + Drop> Shelf for FileShelf<F> {
     ghost write_faults = { λ s. s.writes };
 
     fn read(&mut self, alloc: Global, name: &str, cap: u64) -> Result<Vec<u8>, ShelfError>
-        // What is answered was read from the file of this name, from its start.
+        // What is answered are the first bytes of a file that was opened under this name, as far as files tell.
         ensures from_file { IfOk result (λ v.
             ReadFrom (F.is_opened name.now) F.File.remaining v.items cap) }
 
@@ -68,7 +68,7 @@ impl<F: FileSystem + Drop> Shelf for FileShelf<F> {
     }
 
     fn write(&mut self, alloc: Global, name: &str, bytes: &[u8]) -> Result<(), ShelfError>
-        // What is stored was written to an empty file of this name, and nothing else was.
+        // A file that was made under this name, without bytes, took these bytes and no others, as far as files tell.
         ensures to_file { OnOk result (WrittenTo (F.is_made name.now) F.File.contents bytes.now) }
 
         // For want of memory no file was touched.

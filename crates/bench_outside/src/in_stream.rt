@@ -1,8 +1,8 @@
 //! A stream of the system that is read, which counts its faults.
-ghost use Rattle.std.specs.Prelude.{◌≡◌, ◌≤◌, length, IfOk, OnOk, IsErrOf};
+ghost use Rattle.std.specs.Prelude.{◌≡◌, ◌≤◌, length, IfOk, OnOk, OnErr, IsErrOf};
 ghost use Rattle.std.specs.Io.{ReadsAtMost};
 ghost use Rattle.std.specs.Io.KnownBytes.{ReadConsumes};
-ghost use Rattle.bench_outside.specs.Causes.{Rose, HasCause};
+ghost use Rattle.bench_outside.specs.Causes.{Rose, HasCause, next_count};
 ghost use Rattle.bench_outside.specs.Files.{IsFirstOf};
 
 use crate::{Failed, ShelfError};
@@ -42,6 +42,7 @@ impl<R: Read + Drop> InStream<R> {
         ensures bytes { ReadConsumes (R.remaining self.old.reader) (R.remaining self.new.reader)
             result piece.new }
         ensures cause { HasCause self.old.faults self.new.faults result }
+        ensures one { OnErr result (self.new.faults ≡ next_count self.old.faults) }
     {
         match self.reader.read(piece) {
             Ok(count) => Ok(count),
@@ -58,10 +59,12 @@ impl<R: Read + Drop> InStream<R> {
         ensures bytes { IfOk result (λ v.
             IsFirstOf v.items cap (R.remaining self.old.reader)) }
 
-        // A failure has its cause; without one no fault was counted.
+        // A failure has its cause, and is counted once; without one no fault was counted.
         ensures later { self.old.faults ≤ self.new.faults }
         ensures failed { IsErrOf result ShelfError.Failed
             → Rose self.old.faults self.new.faults }
+        ensures one { IsErrOf result ShelfError.Failed
+            → self.new.faults ≡ next_count self.old.faults }
         ensures memory { IsErrOf result ShelfError.Memory
             → self.new.faults ≡ self.old.faults }
         ensures kept { OnOk result (self.new.faults ≡ self.old.faults) }

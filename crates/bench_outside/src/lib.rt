@@ -20,6 +20,3 @@ pub use out_sink::OutSink;
 pub use refusal::{FileId, Refusal, Why};
 pub use shelf::{Shelf, ShelfError, a_stored_file_reads_back, a_stored_file_spares_others};
 pub use sink::{Failed, Sink};
-
-#[cfg(test)]
-mod tests;

@@ -2,7 +2,7 @@
 ghost use Rattle.std.specs.Prelude.{◌≡◌, None, OnOk, OnErr, IfOk, ◌<◌, length};
 ghost use Rattle.std.specs.Io.{WritesAtMost};
 ghost use Rattle.std.specs.Io.KnownBytes.{Appends, WriteAppends};
-ghost use Rattle.bench_outside.specs.Causes.{HasCause};
+ghost use Rattle.bench_outside.specs.Causes.{HasCause, next_count};
 ghost use Rattle.bench_outside.specs.Sink.{Appended, AppendedPart, Counted};
 ghost use Rattle.bench_outside.specs.Files.{AppendsPart};
 
@@ -42,6 +42,7 @@ impl<W: Write + Drop> OutSink<W> {
         ensures bytes { WriteAppends (W.contents self.old.writer) (W.contents self.new.writer)
             result piece.now }
         ensures cause { HasCause self.old.faults self.new.faults result }
+        ensures one { OnErr result (self.new.faults ≡ next_count self.old.faults) }
     {
         match self.writer.write(piece) {
             Ok(count) if count > 0 => Ok(count),
@@ -66,6 +67,9 @@ impl<W: Write + Drop> Sink for OutSink<W> {
             (Appends (W.contents self.old.writer) (W.contents self.new.writer) bytes.now) }
         ensures part_through { OnErr result
             (AppendsPart (W.contents self.old.writer) (W.contents self.new.writer) bytes.now) }
+
+        // A write that fails is counted once.
+        ensures one { OnErr result (self.new.faults ≡ next_count self.old.faults) }
 
         // As for every sink.
         ensures appended { OnOk result (Appended None None bytes.now) }

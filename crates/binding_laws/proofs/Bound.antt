@@ -1,18 +1,16 @@
 -- What a module has that is that of a unit, and what its functions come to.
 use Rattle.std.specs.Prelude.{◌≡◌, ℕ, ◌+◌, ◌==◌, Bool, true, false, List, [], ◌∷◌, reverse, Option, None, Some, option_map, cond, refl}
 use Rattle.std.proofs.Common.{sym, ap, ◌∙◌, subst}
-use Rattle.std.proofs.lemmas.Bool.{and_parts}
-use Rattle.wasm_types.specs.declared.instr.ValType.{ValType}
-use Rattle.wasm_types.specs.declared.instr.ValType.TheVariants.{I32, I64}
 use Rattle.wasm_types.specs.declared.module.FuncType.{FuncType}
 use Rattle.wasm_types.specs.declared.module.Export.{Export}
 use Rattle.wasm_types.specs.Modules.{NestedModule}
-use Rattle.code_specs.specs.Values.{is_same}
 use Rattle.code_specs.specs.Stores.{Store}
-use Rattle.code_specs.specs.Signatures.{Function as TypedFunction, is_same_list, is_same_type, function_at, type_of_function}
+use Rattle.code_specs.specs.Signatures.{Function as TypedFunction, function_at, type_of_function}
 use Rattle.code_specs.specs.Execution.{answer_of}
 use Rattle.code_specs.specs.Validity.{IsValid}
 use Rattle.code_laws.specs.Answers.{Fit, AnswersWith}
+use Rattle.code_laws.proofs.Tests.{some_is}
+use Rattle.code_laws.proofs.Effected.{type_is}
 use Rattle.code_laws.proofs.Calling.{answers}
 use Rattle.binding_specs.specs.declared.function.Function.{Function}
 use Rattle.binding_specs.specs.declared.function.Function.TheVariants.{Area, Instantiate, EnterInit, ExitInit, EnterEvent, EnterStep, SetClock, SetBinary, GetClock, GetBinary, Update, GetInterval, DoStep, Terminate, Free}
@@ -20,28 +18,6 @@ use Rattle.binding_specs.specs.declared.error.BindError.{BindError}
 use Rattle.binding_specs.specs.declared.error.BindError.TheVariants.{Signature}
 use Rattle.binding_specs.specs.Exports.{Row, function_row, type_of, rows, export_named, exported_type, is_type, is_item, fault_at, or_else, first_fault_from, binding_fault, index_if}
 use Rattle.binding_laws.specs.Words.{Has, IsThere}
-
--- ---- equal types
-
-same_is : (t u : ValType) → is_same t u ≡ true → t ≡ u
-same_is I32 I32 h = refl
-same_is I64 I64 h = refl
-same_is I32 I64 h = cc
-same_is I64 I32 h = cc
-
-same_list_is : (ts us : List ValType) → is_same_list ts us ≡ true → ts ≡ us
-same_list_is [] [] h = refl
-same_list_is [] (u ∷ us) h = cc
-same_list_is (t ∷ ts) [] h = cc
-same_list_is (t ∷ ts) (u ∷ us) h =
-    let x = and_parts (is_same t u) (is_same_list ts us) h in
-    ap (λ t. t ∷ ts) (same_is t u x.0) ∙ ap (λ ts. u ∷ ts) (same_list_is ts us x.1)
-
-type_is : (f g : FuncType) → is_same_type f g ≡ true → f ≡ g
-type_is f g h =
-    let x = and_parts (is_same_list f.params g.params) (is_same_list f.results g.results) h in
-    ap (λ (ts : List ValType). let t : FuncType = record { params = ts; results = f.results } in t) (same_list_is f.params g.params x.0)
-    ∙ ap (λ (ts : List ValType). let t : FuncType = record { params = g.params; results = ts } in t) (same_list_is f.results g.results x.1)
 
 -- ---- rows
 
@@ -89,9 +65,6 @@ row_of m h Terminate = h.1.1.1.1.1.1.1.1.1.1.1.1.1.1.0
 row_of m h Free = h.1.1.1.1.1.1.1.1.1.1.1.1.1.1.1.0
 
 -- ---- functions
-
-some_is : {A : Type 0} → (x y : A) → Some x ≡ Some y → x ≡ y
-some_is x y e = cc
 
 -- what the type of an export says, where it is that of a function
 record IsFunction (m : NestedModule) (e : Export) (t : FuncType) : Type 0 where

@@ -13,7 +13,7 @@ use Rattle.frame_specs.specs.FrameReading.{frame_of, bytes_of}
 use Rattle.frame_specs.proofs.FrameReadingLaws.{frame_of_from_spells, spells_from_frame_of, bytes_of-hex_bytes, hex_bytes-spelled}
 use Rattle.log_specs.specs.Line.{bytes_text, joined, numbers, numbers_text}
 use Rattle.plain_text.specs.Parts.{parts}
-use Rattle.bus_log.specs.IsLine.{is_within, rise_from, all_below, frame_fits}
+use Rattle.log_lines.specs.IsLine.{is_within, rise_from, all_below, frame_fits}
 use Rattle.bus_log.specs.Verbs.{named}
 use Rattle.bus_log.specs.Reading.{word32, rising_from, numbers_in, counted, bytes_in, four, id_in}
 use Rattle.plain_text.specs.Decimal.{number_in, number_of}
@@ -21,7 +21,7 @@ use Rattle.plain_text.proofs.Options.{bind_some, map_some, if_some}
 use Rattle.plain_text.proofs.Decimals.{number_in-decimal, number_in-some}
 use Rattle.plain_text.specs.Decimal.{Between}
 use Rattle.plain_text.proofs.Separators.{over, over-decimal, all_over, all_without, parts_joined, joined_parts, some_part}
-use Rattle.bus_log.proofs.Texts.{hex_of_bytes}
+use Rattle.log_lines.proofs.Texts.{hex_of_bytes}
 
 pub word_is : (text word : List ℕ) → bytes_eq text word ≡ true → text ≡ word
 word_is text word same = (bytes_eq-Decides text word).0 same

@@ -11,7 +11,7 @@ use Rattle.frame_specs.proofs.FrameReadingLaws.{cut-spelled}
 use Rattle.log_specs.specs.Line as log
 use Rattle.log_specs.specs.Line.{Line, On, Down, Over, End, Told, Cause, said, words, joined, line_text, level_text, cause_text, bytes_text, numbers_text}
 use Rattle.plain_text.specs.Parts.{parts}
-use Rattle.bus_log.specs.IsLine.{is_within, is_told, all_below, frame_fits, told_fits, IsLine, Fits}
+use Rattle.log_lines.specs.IsLine.{is_within, is_told, all_below, frame_fits, told_fits, IsLine, Fits}
 use Rattle.bus_log.specs.Spelling.{Spells}
 use Rattle.bus_log.specs.Verbs.{verbs, verb_text, verb_named}
 use Rattle.bus_log.specs.Reading.{word32, word64, bytes_in, id_in, numbers_in, levels, causes, cause_named, level_named, bare, one, lost_in, wake_in, notice_in, done_in, fail_in, told_by, told_in, status_of, end_in, bus_line_in, node_line_in, line_in, ended, line_of_text}

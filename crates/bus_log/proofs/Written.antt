@@ -7,7 +7,7 @@ use Rattle.operation_specs.specs.Operation.{Declared, Active, Passive, Off}
 use Rattle.frame_specs.specs.FrameText.{frame_text, hex}
 use Rattle.log_specs.specs.Line as log
 use Rattle.log_specs.specs.Line.{Line, On, Down, Over, End, Told, Cause, said, words, joined, line_text, level_text, cause_text, bytes_text, numbers, numbers_text}
-use Rattle.bus_log.specs.IsLine.{is_within, is_told, all_below, frame_fits, told_fits, IsLine, Fits}
+use Rattle.log_lines.specs.IsLine.{is_within, is_told, all_below, frame_fits, told_fits, IsLine, Fits}
 use Rattle.bus_log.specs.Reading.{word32, word64, cause_named, level_named, told_in, status_of, line_in, line_of_text}
 use Rattle.plain_text.specs.Decimal.{number_in}
 use Rattle.plain_text.proofs.Decimals.{number_in-decimal}

@@ -1,7 +1,3 @@
-pub mod Commas
-pub mod IsLine
-pub mod Lines
-pub mod Parts
 pub mod Verbs
 pub mod Reading
 pub mod Groups

@@ -6,7 +6,7 @@ use Rattle.log_specs.specs.Line as log
 use Rattle.log_specs.specs.Line.{Line, On, Down, Over, End, Told, Cause, level_text, cause_text}
 use Rattle.plain_text.specs.Parts.{parts}
 use Rattle.plain_text.specs.Decimal.{number_in}
-use Rattle.bus_log.specs.IsLine.{is_within}
+use Rattle.log_lines.specs.IsLine.{is_within}
 use Rattle.bus_log.specs.Verbs.{named, verb_named}
 use Rattle.bus_log.specs.declared.verb.Verb.{Verb}
 use Rattle.bus_log.specs.declared.verb.Verb.TheVariants as verb

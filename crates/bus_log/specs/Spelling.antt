@@ -1,7 +1,7 @@
 -- What a text is read as: the line whose text it is, or nothing where it is the text of none. Public clauses cite this file.
 use Rattle.std.specs.Prelude.{◌≡◌, ℕ, List, Option, Some, None}
 use Rattle.log_specs.specs.Line.{Line, line_text}
-use Rattle.bus_log.specs.IsLine.{IsLine, Fits}
+use Rattle.log_lines.specs.IsLine.{IsLine, Fits}
 
 -- the text of a line of a log that the code can hold
 pub record Spells (text : List ℕ) (line : Line) : Type 0 where

@@ -1,7 +1,7 @@
 //! Laws of the lines of a log and their texts.
 ghost use Rattle.std.specs.Prelude.{◌≡◌, ℕ, List, Option, Some};
 ghost use Rattle.log_specs.specs.Line.{Line, line_text};
-ghost use Rattle.bus_log.specs.IsLine.{IsLine, Fits};
+ghost use Rattle.log_lines.specs.IsLine.{IsLine, Fits};
 ghost use Rattle.bus_log.specs.Spelling.{Spells, IsReadAs};
 
 /// Each text is read as a line, or as that of none: as one of them, and as no other.

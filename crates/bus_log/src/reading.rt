@@ -1,7 +1,7 @@
 //! Reading a line.
 ghost use Rattle.std.specs.Prelude.{◌≡◌, ◌∷◌, [], IfOk, IfSome, Some, option_map, map};
 ghost use Rattle.log_specs.specs.Line as log;
-ghost use Rattle.bus_log.specs.Lines.{line_of};
+ghost use Rattle.log_lines.specs.Lines.{line_of};
 ghost use Rattle.bus_log.specs.Spelling.{Spells};
 ghost use Rattle.bus_log.specs.Reading.{one, bare, line_of_text, line_in, end_in, node_line_in, unit_line_in as unit_of, bus_line_in, cause_named as cause_of_word};
 

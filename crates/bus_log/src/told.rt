@@ -2,7 +2,7 @@
 ghost use Rattle.std.specs.Prelude.{◌≡◌, IfOk, option_map, option_and_then, map, length};
 ghost use Rattle.frame_specs.specs.FrameReading.{frame_of};
 ghost use Rattle.log_specs.specs.Line as log;
-ghost use Rattle.bus_log.specs.Lines.{line_of, declared_of};
+ghost use Rattle.log_lines.specs.Lines.{line_of, declared_of};
 ghost use Rattle.bus_log.specs.Groups.{with_frame, with_nothing, with_value, with_level, with_bytes};
 ghost use Rattle.bus_log.specs.Reading.{one, bare, told_by, bytes_in as bytes_of_text, id_in as id_of_text, counted as counted_of, four as four_of, word32, level_named as level_of, notice_in, wake_in, text_in, lost_in, done_in, fail_in};
 ghost use Rattle.plain_text.specs.Decimal.{number_in};

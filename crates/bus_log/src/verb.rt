@@ -3,10 +3,9 @@ ghost use Rattle.std.specs.Prelude.{◌≡◌, option_map, bytes_eq};
 ghost use Rattle.log_specs.specs.Line.{cause_text as text_of_cause};
 ghost use Rattle.bus_log.specs.Verbs.{named, verb_named as verb_of, verb_text as text_of};
 ghost use Rattle.bus_log.specs.Reading.{level_named as level_of, cause_named as cause_of_word};
-ghost use Rattle.bus_log.specs.Lines.{declared_of, cause_of};
+ghost use Rattle.log_lines.specs.Lines.{declared_of, cause_of};
 
-use crate::printing::{cause_text, level_text};
-use crate::{Cause, Level};
+use log_lines::{Cause, Level, cause_text, level_text};
 
 /// What a line of a bus tells, by its word.
 #[derive(Clone, Copy)]

@@ -1,7 +1,7 @@
 -- What a submission and its fate stand for. No public clause cites this file.
 use Rattle.std.specs.Prelude.{Bool, true, false}
 use Rattle.bus_specs.specs.Submit as model
-use Rattle.bus_log.specs.Lines.{declared_of}
+use Rattle.log_lines.specs.Lines.{declared_of}
 use Rattle.bus_medium.specs.declared.submission.Submission.{Submission}
 use Rattle.bus_medium.specs.declared.submission.Submission.TheVariants.{Transmit, Keep, Discard, Wakeup, Sleep, Noted, Unfit}
 use Rattle.bus_medium.specs.declared.submission.Noted as noted

@@ -1,7 +1,7 @@
 //! The end of a frame, and the return of a node that was off.
 ghost use Rattle.std.specs.Prelude.{◌≡◌, ℕ, ◌≤◌, ◌+◌, ◌^◌, ◌&&◌, ◌∷◌, ◌++◌, [], Some, All, option_to_list, IfOk, OnOk, OnErr, false, not, filter, flat_map, length, map, vec_len, vec_capacity, if◌then◌else◌, ◌==◌};
 ghost use Rattle.log_specs.specs.Line as log;
-ghost use Rattle.bus_log.specs.Lines.{line_of, declared_of};
+ghost use Rattle.log_lines.specs.Lines.{line_of, declared_of};
 ghost use Rattle.error_counters.specs.States as states;
 ghost use Rattle.bus_specs.specs.Bus.{among, member_is, off};
 ghost use Rattle.bus_specs.specs.Counters.{level};
@@ -17,9 +17,9 @@ use crate::member::Member;
 use crate::part::{After, Part};
 use crate::request::Request;
 use crate::running::Running;
-use bus_log::{Level, Line, LineList};
 use can_frame::Numbers;
 use error_counters::{Counters, State};
+use log_lines::{Level, Line, LineList};
 use std::alloc::{AllocError, Global};
 
 /// What the end of a frame makes of each node, who receives it, and whose state changes.

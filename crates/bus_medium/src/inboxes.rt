@@ -8,8 +8,8 @@ ghost use Rattle.bus_specs.specs.Inbox as model;
 use crate::lookup::place_of;
 use crate::request::Request;
 use crate::{Medium, member_changes};
-use bus_log::LineList;
 use can_frame::Bytes;
+use log_lines::LineList;
 use std::alloc::{AllocError, Global};
 
 /// Removes the requests of a node.

@@ -3,7 +3,7 @@ ghost use Rattle.std.specs.Prelude.{◌≡◌, ◌++◌, ◌||◌, true, None, I
 ghost use Rattle.operation_specs.specs.Operation.{is_valid};
 ghost use Rattle.operation_specs.specs.Spelling.{spell};
 ghost use Rattle.log_specs.specs.Line.{On};
-ghost use Rattle.bus_log.specs.Lines.{line_of};
+ghost use Rattle.log_lines.specs.Lines.{line_of};
 ghost use Rattle.bus_ops.specs.Views.{operation_of};
 ghost use Rattle.bus_specs.specs.Inbox.{has_notice as has_notice_of, due_lost, due_format, due_wake, later_part, transmit_as, operation_of_mail, items_of, told_notices, member_after_inbox};
 ghost use Rattle.bus_medium.specs.Mails.{mail_of};
@@ -11,9 +11,9 @@ ghost use Rattle.bus_medium.specs.Telling.{IsTellable, mail_item, lost_item, for
 
 use crate::mail::Mail;
 use crate::member::{FormatNotice, LostNotice, Member};
-use bus_log::Line;
 use bus_ops::{Op, write_op};
 use can_frame::{Bytes, Frame, Kind};
+use log_lines::Line;
 use std::alloc::{AllocError, Global};
 
 /// A received frame as an operation.

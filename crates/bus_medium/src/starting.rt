@@ -4,7 +4,7 @@ ghost use Rattle.bus_specs.specs.Bus.{Request as request, winner};
 ghost use Rattle.bus_specs.specs.Due.{next_due as next_due_of, at, Start};
 ghost use Rattle.bus_specs.specs.Start.{spans, discards, running_frame, course, discarded, start_lines, start as start_of};
 ghost use Rattle.log_specs.specs.Line as log;
-ghost use Rattle.bus_log.specs.Lines.{line_of};
+ghost use Rattle.log_lines.specs.Lines.{line_of};
 ghost use Rattle.bus_medium.specs.Offers.{request_at, IsPlaceIn, somes};
 ghost use Rattle.bus_medium.specs.Losers.{gone_of, loser_line, loser_lines, gone_from, gone_id, is_among_gone, member_behind, member_from};
 
@@ -15,7 +15,7 @@ use crate::member::{LostNotice, Member};
 use crate::offers::foremost_offer;
 use crate::request::Request;
 use crate::running::Running;
-use bus_log::{Line, LineList};
+use log_lines::{Line, LineList};
 use std::alloc::{AllocError, Global};
 
 /// A request that lost arbitration and is discarded.

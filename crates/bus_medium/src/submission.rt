@@ -5,15 +5,15 @@ ghost use Rattle.operation_specs.specs.Reading.{IsWhole};
 ghost use Rattle.log_specs.specs.Line.{On};
 ghost use Rattle.bus_specs.specs.Bus.{Bus as medium};
 ghost use Rattle.bus_specs.specs.Submit.{told_of, submission_of, submission_of_operation, submission_of_parameter, unfit_operation, first_64, is_own};
-ghost use Rattle.bus_log.specs.Lines as lines;
-ghost use Rattle.bus_log.specs.Lines.{line_of};
+ghost use Rattle.log_lines.specs.Lines as lines;
+ghost use Rattle.log_lines.specs.Lines.{line_of};
 ghost use Rattle.bus_ops.specs.Views.{item_of, operation_of, parameter_of, declared_of};
 ghost use Rattle.bus_medium.specs.Submissions.{asked_of, noted_of};
 
 use crate::Medium;
-use bus_log::{Level, Line};
 use bus_ops::{Declared, Item, Op, Parameter, write_op};
 use can_frame::{Bytes, Frame};
+use log_lines::{Level, Line};
 use std::alloc::{AllocError, Global};
 
 /// How many bytes are told of an operation that is bad.

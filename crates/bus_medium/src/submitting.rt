@@ -7,7 +7,7 @@ ghost use Rattle.bus_specs.specs.Submit.{submit as submit_of, fate as fate_of_no
 ghost use Rattle.bus_specs.specs.Submit as model;
 ghost use Rattle.bus_specs.specs.Sound.{IsFrame, IsEcho, IsSubmission};
 ghost use Rattle.log_specs.specs.Line as log;
-ghost use Rattle.bus_log.specs.Lines.{line_of};
+ghost use Rattle.log_lines.specs.Lines.{line_of};
 ghost use Rattle.bus_ops.specs.Views.{item_of};
 ghost use Rattle.bus_medium.specs.Submissions.{fate_of, keep_or_discard};
 
@@ -16,9 +16,9 @@ use crate::lookup::is_off_at;
 use crate::member_changes::{fall_asleep, set_discards, tell_format, wake_up};
 use crate::request::Request;
 use crate::submission::Submission;
-use bus_log::Line;
 use bus_ops::Item;
 use can_frame::{Bytes, Frame};
+use log_lines::Line;
 use std::alloc::{AllocError, Global};
 
 /// The requests that a node may have at once.

@@ -16,6 +16,3 @@ pub use laws::{
 pub use op::{Declared, Item, Op, Parameter};
 pub use reading::read_ops;
 pub use writing::write_op;
-
-#[cfg(test)]
-mod tests;

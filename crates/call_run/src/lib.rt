@@ -8,6 +8,3 @@ mod report;
 mod running;
 
 pub use report::{CallError, call_report};
-
-#[cfg(test)]
-mod tests;

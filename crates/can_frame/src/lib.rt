@@ -13,6 +13,3 @@ pub use laws::{
     a_printed_frame_is_read_back, a_text_is_read_as_what_it_spells, a_text_is_that_of_one_frame,
 };
 pub use lists::{Bytes, Name, Numbers};
-
-#[cfg(test)]
-mod tests;

@@ -15,6 +15,3 @@ pub use laws::{
 };
 pub use moment::{ByTicks, CountByTicks, Moment};
 pub use queue::Queue;
-
-#[cfg(test)]
-mod tests;

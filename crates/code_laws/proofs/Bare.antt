@@ -15,6 +15,7 @@ use Rattle.code_specs.specs.Signatures.{Signature, is_same_type, type_of_functio
 use Rattle.code_specs.specs.Instances.{table_of}
 use Rattle.code_specs.specs.Effects.{Effect, Continues, ReadsLocal, WritesLocal, Branches, Returns, Calls, Traps, Stuck, Meaning, typed, bare, on_split, on_one, on_i32, results, after_meaning, plain_effect, meaning_of, branch_if, selection, checked_call, indirect_call, effect_of}
 use Rattle.code_laws.specs.Bare.{bits_of_effect}
+use Rattle.code_laws.proofs.Tests.{some_is}
 
 -- the effect over bare numbers is that over values, if that isn't stuck
 abbrev Shows : Effect Value → Effect ℕ → Type 0
@@ -29,9 +30,6 @@ Shows (Traps kind) e = e ≡ Traps kind
 
 abbrev bits_of_split : Split Value → Split ℕ
 bits_of_split p = record { top = all_bits p.top; below = all_bits p.below }
-
-some_is : {A : Type 0} (x y : A) → Some x ≡ Some y → x ≡ y
-some_is x y e = cc
 
 split_more : (ts : List ValType) (v : Value) (vs : List Value) (p : Split Value)
     → ((q : Split Value) → split ts vs ≡ Some q → split_first (length ts) (all_bits vs) ≡ Some (bits_of_split q))

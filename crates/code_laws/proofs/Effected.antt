@@ -163,7 +163,7 @@ callable f s e vs is h =
 abbrev pub HasTable : NestedModule → Type 0
 HasTable m = (at index : ℕ) → slice_get (table_of m) at ≡ Some (Some index) → (f : FuncType) × (type_of_function m index ≡ Some f)
 
-type_is : (f g : FuncType) → is_same_type f g ≡ true → f ≡ g
+pub type_is : (f g : FuncType) → is_same_type f g ≡ true → f ≡ g
 type_is f g h =
     let x = both (is_same_list f.params g.params) (is_same_list f.results g.results) h in
     ap (with_params f.results) (same_list_is f.params g.params x.0) ∙ ap (with_results g.params) (same_list_is f.results g.results x.1)

@@ -8,10 +8,9 @@ use Rattle.wasm_types.specs.Modules.{NestedModule}
 use Rattle.code_specs.specs.Stores.{Store, page_size, pages, greatest_pages, bytes_of, bytes_at, replaced_at}
 use Rattle.code_specs.specs.Integers.{unsigned}
 use Rattle.code_specs.specs.Numerics.{binary}
-use Rattle.code_specs.specs.Signatures.{Signature, signature_of, access_bytes}
+use Rattle.code_specs.specs.Signatures.{access_bytes}
 use Rattle.code_specs.specs.Effects.{store_meaning, meaning_of}
 use Rattle.code_specs.specs.Execution.{answer_of}
-use Rattle.code_laws.specs.Answers.{Fit}
 use Rattle.code_laws.specs.Kept.{HasBytes, LeavesBytes}
 use Rattle.code_laws.proofs.Kept.{KeepsMeaning, kept}
 use Rattle.code_laws.proofs.Ranges.{numeric_keeps, load_keeps}
@@ -36,18 +35,20 @@ grow_bytes : (count more : ℕ) (s : Store) (b : Bool) → HasBytes count s
 grow_bytes count more s true h = omega (arith, h, length-append s.bytes (replicate (more * page_size) 0))
 grow_bytes count more s false h = h
 
-bytes_kept : (m : NestedModule) (count : ℕ) (i : Instr) (g : Signature) (numbers : List ℕ) (s : Store) → signature_of m i ≡ Some g → Fit g.takes numbers → HasBytes count s → KeepsMeaning (HasBytes count) (meaning_of m i numbers s)
+-- each plain instruction leaves so many bytes, whatever its operands are
+pub bytes_kept : (m : NestedModule) (count : ℕ) (i : Instr) (numbers : List ℕ) (s : Store) → HasBytes count s
+    → KeepsMeaning (HasBytes count) (meaning_of m i numbers s)
 unfolding meaning_of
-bytes_kept m count (instr.Numeric op) g (j ∷ i ∷ []) s is fits h = numeric_keeps (HasBytes count) (binary op i j) s h
-bytes_kept m count (instr.Globals op index) g [] s is fits h = h
-bytes_kept m count (instr.Globals op index) g (n ∷ []) s is fits h = h
-bytes_kept m count (instr.Access op align offset) g (base ∷ []) s is fits h = load_keeps (HasBytes count) op s (bytes_at s.bytes (base + offset) (access_bytes op)) h
-bytes_kept m count (instr.Access op align offset) g (n ∷ base ∷ []) s is fits h = store_bytes count (base + offset) (bytes_of (access_bytes op) n) s (bytes_at s.bytes (base + offset) (access_bytes op)) h
-bytes_kept m count instr.MemorySize g [] s is fits h = h
-bytes_kept m count instr.MemorySize g (n ∷ ns) s is fits h = h
-bytes_kept m count instr.MemoryGrow g (more ∷ []) s is fits h = grow_bytes count more s (nat_le (pages s + more) (greatest_pages m)) h
-bytes_kept m count i g numbers s is fits h = h
+bytes_kept m count (instr.Numeric op) (j ∷ i ∷ []) s h = numeric_keeps (HasBytes count) (binary op i j) s h
+bytes_kept m count (instr.Globals op index) [] s h = h
+bytes_kept m count (instr.Globals op index) (n ∷ []) s h = h
+bytes_kept m count (instr.Access op align offset) (base ∷ []) s h = load_keeps (HasBytes count) op s (bytes_at s.bytes (base + offset) (access_bytes op)) h
+bytes_kept m count (instr.Access op align offset) (n ∷ base ∷ []) s h = store_bytes count (base + offset) (bytes_of (access_bytes op) n) s (bytes_at s.bytes (base + offset) (access_bytes op)) h
+bytes_kept m count instr.MemorySize [] s h = h
+bytes_kept m count instr.MemorySize (n ∷ ns) s h = h
+bytes_kept m count instr.MemoryGrow (more ∷ []) s h = grow_bytes count more s (nat_le (pages s + more) (greatest_pages m)) h
+bytes_kept m count i numbers s h = h
 
 pub never_shrinks : (m : NestedModule) (index : ℕ) (arguments : List ℕ) (s : Store) (fuel : ℕ) → LeavesBytes (length s.bytes) (answer_of m index arguments s fuel)
 never_shrinks m index arguments s fuel =
-    kept (HasBytes (length s.bytes)) m (record { by = bytes_kept m (length s.bytes) }) index arguments s fuel (omega arith)
+    kept (HasBytes (length s.bytes)) m (record { by = λ i g numbers t is fits has. bytes_kept m (length s.bytes) i numbers t has }) index arguments s fuel (omega arith)

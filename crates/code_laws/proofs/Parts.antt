@@ -20,7 +20,7 @@ use Rattle.code_laws.proofs.Effected.{HasTable}
 
 -- ---- rules that hold of each item
 
-none_fails : (r : Rule) (o : Option ℕ) (u : Unit {0}) → fails_at r o ≡ Ok u → o ≡ None
+pub none_fails : (r : Rule) (o : Option ℕ) (u : Unit {0}) → fails_at r o ≡ Ok u → o ≡ None
 none_fails r None u is = refl
 none_fails r (Some place) u is = cc
 
@@ -31,7 +31,8 @@ one_passes test place y ys true t is = (t, sym (ap (λ b. cond b (first_failing 
 one_passes test place y ys false t is =
     absurd (let wrong : Some place ≡ None = sym (ap (λ b. cond b (first_failing test (place + 1) ys) (Some place)) t) ∙ is in cc)
 
-each_passes : {A : Type 0} (test : A → Bool) (place : ℕ) (xs : List A) → first_failing test place xs ≡ None
+-- where no item fails each passes
+pub each_passes : {A : Type 0} (test : A → Bool) (place : ℕ) (xs : List A) → first_failing test place xs ≡ None
     → (i : ℕ) (x : A) → slice_get xs i ≡ Some x → test x ≡ true
 each_passes test place [] is i x at = cc
 each_passes test place (y ∷ ys) is zero x at = ap test (sym (some_is y x at)) ∙ (one_passes test place y ys (test y) refl is).0

@@ -5,5 +5,6 @@ pub mod AcceptedTerminals
 pub mod InRange
 pub mod References
 pub mod FirstRefusals
+pub mod Rows
 pub mod SameKeys
 pub mod OneMoreKey

@@ -14,7 +14,7 @@ skipped_at Equal a d h = absurd (cc)
 skipped_at Greater a d h = refl
 
 -- another key has what it had
-skipped : (k key : List ℕ) (d : Data) (t : Members) → same_key k key ≡ false → get_member k (member key d t) ≡ get_member k t
+pub skipped : (k key : List ℕ) (d : Data) (t : Members) → same_key k key ≡ false → get_member k (member key d t) ≡ get_member k t
 skipped k key d t h = skipped_at (slice_cmp nat_cmp k key) (get_member k t) d h
 
 pub one_more : (key : List ℕ) (d : Data) (t : Members) → is_read key ≡ false → TellTheSame (member key d t) t
@@ -27,7 +27,13 @@ one_more key d t h =
     let binaries = either_false (same_key (codes "Binary") key) _ clocks.1 in
     let terminals = either_false (same_key (codes "Terminal") key) _ binaries.1 in
     record {
-      head = (skipped (codes "fmiVersion") key d t version.0, (skipped (codes "modelName") key d t model.0, (skipped (codes "instantiationToken") key d t token.0, tt)));
+      head = (
+        skipped (codes "fmiVersion") key d t version.0,
+        (
+          skipped (codes "modelName") key d t model.0,
+          (skipped (codes "instantiationToken") key d t token.0, tt),
+        ),
+      );
       unit = inl (skipped (codes "CoSimulation") key d t unit.0);
       clocks = inl (skipped (codes "Clock") key d t clocks.0);
       binaries = inl (skipped (codes "Binary") key d t binaries.0);

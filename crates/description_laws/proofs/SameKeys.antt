@@ -1,10 +1,8 @@
 -- Documents that tell the same are read alike.
-use Rattle.std.proofs.Common.{◌≡◌, ℕ, ◌≤◌, Bool, true, false, nat_le, ◌&&◌, List, [], ◌∷◌, ◌++◌, length, Some, None, Result, Ok, Err, refl, sym, ap, ◌∙◌, arith, inl, inr, codes}
-use Rattle.std.specs.Prelude.{if◌then◌else◌, unwrap_or}
+use Rattle.std.proofs.Common.{◌≡◌, ℕ, ◌≤◌, true, nat_le, List, length, Some, refl, sym, ◌∙◌, arith, inl, inr, codes}
 use Rattle.std.proofs.lemmas.Bool.Decides.{nat_tests}
-use Rattle.toml.specs.Data.{Data, Items, no_items, item, Members, no_members, as_table}
-use Rattle.document_specs.specs.Checks.{◌>>=◌, needs, each}
-use Rattle.document_specs.specs.Documents.{document, are_tables, tables_of, is_within}
+use Rattle.toml.specs.Data.{Members}
+use Rattle.document_specs.specs.Documents.{document}
 use Rattle.unit_specs.specs.Description.{Terminal}
 use Rattle.description_specs.specs.declared.field.Field.TheVariants as field
 use Rattle.description_specs.specs.declared.variable.ClockVariable.{ClockVariable}
@@ -14,87 +12,50 @@ use Rattle.description_specs.specs.Clocks.{clock_of, clock_at, clocks_of}
 use Rattle.description_specs.specs.Binaries.{binary_of, binary_at, binaries_of}
 use Rattle.description_specs.specs.Terminals.{terminal_of, terminal_at, terminals_of}
 use Rattle.description_specs.specs.Descriptions.{description_of, description_in, head_of, most_bytes}
-use Rattle.description_laws.specs.Keys.{AgreeAt, RowAgrees, RowsAgree, SameTable, SameRows, TellTheSame, head_keys, unit_keys, clock_keys, binary_keys, terminal_keys}
-
-bind_same : {E A B : Type 0} (r : Result A E) (f g : A → Result B E) → ((x : A) → f x ≡ g x) → (r >>= f) ≡ (r >>= g)
-bind_same (Ok x) f g same = same x
-bind_same (Err e) f g same = refl
-
--- rows that agree are tables alike, as many, and read alike by a reader of these keys
-rows_are : (keys : List (List ℕ)) (ds es : Items) → RowsAgree keys ds es → are_tables ds ≡ are_tables es
-rows_are keys no_items no_items agree = refl
-rows_are keys no_items (item e es) agree = absurd agree
-rows_are keys (item d ds) no_items agree = absurd agree
-rows_are keys (item d ds) (item e es) (inl same, more) = rw (same, rows_are keys ds es more) refl
-rows_are keys (item d ds) (item e es) (inr k, more) = rw (k.is_one, k.is_other, rows_are keys ds es more) refl
-
-rows_many : (keys : List (List ℕ)) (ds es : Items) → RowsAgree keys ds es → length (tables_of ds) ≡ length (tables_of es)
-rows_many keys no_items no_items agree = refl
-rows_many keys no_items (item e es) agree = absurd agree
-rows_many keys (item d ds) no_items agree = absurd agree
-rows_many keys (item d ds) (item e es) agree = omega (arith, rows_many keys ds es agree.1)
-
-row_read : {A E : Type 0} (keys : List (List ℕ)) (read : Members → Result A E) → ((t u : Members) → AgreeAt keys t u → read t ≡ read u)
-    → (d e : Data) → RowAgrees keys d e → read (unwrap_or (as_table d) no_members) ≡ read (unwrap_or (as_table e) no_members)
-row_read keys read alike d e (inl same) = rw same refl
-row_read keys read alike d e (inr k) = rw (k.is_one, k.is_other) (alike k.one k.other k.agree)
-
-rows_read : {A E : Type 0} (keys : List (List ℕ)) (read : List A → Members → Result A E) → ((before : List A) (t u : Members) → AgreeAt keys t u → read before t ≡ read before u)
-    → (ds es : Items) → RowsAgree keys ds es → (before : List A) → each read before (tables_of ds) ≡ each read before (tables_of es)
-rows_read keys read alike no_items no_items agree before = refl
-rows_read keys read alike no_items (item e es) agree before = absurd agree
-rows_read keys read alike (item d ds) no_items agree before = absurd agree
-rows_read keys read alike (item d ds) (item e es) agree before =
-    ap (λ r. r >>= λ x. each read (before ++ x ∷ []) (tables_of ds)) (row_read keys (read before) (alike before) d e agree.0)
-    ∙ bind_same (read before (unwrap_or (as_table e) no_members)) (λ x. each read (before ++ x ∷ []) (tables_of ds)) (λ x. each read (before ++ x ∷ []) (tables_of es))
-    (λ x. rows_read keys read alike ds es agree.1 (before ++ x ∷ []))
-
-chosen : {A E : Type 0} (fault : E) (b : Bool) (xs ys : List Members) (f : List Members → Result A E) → f xs ≡ f ys
-    → (needs fault (if b then Some xs else None) >>= f) ≡ (needs fault (if b then Some ys else None) >>= f)
-chosen fault true xs ys f same = same
-chosen fault false xs ys f same = refl
-
--- the rows of two arrays, so many of them
-some_rows : {A E : Type 0} (keys : List (List ℕ)) (fault : E) (low high : ℕ) (read : List A → Members → Result A E) → ((before : List A) (t u : Members) → AgreeAt keys t u → read before t ≡ read before u)
-    → (ds es : Items) → RowsAgree keys ds es
-    → (needs fault (if are_tables ds && is_within low high (length (tables_of ds)) then Some (tables_of ds) else None) >>= each read [])
-    ≡ (needs fault (if are_tables es && is_within low high (length (tables_of es)) then Some (tables_of es) else None) >>= each read [])
-some_rows keys fault low high read alike ds es agree =
-    ap (λ b. needs fault (if b && is_within low high (length (tables_of ds)) then Some (tables_of ds) else None) >>= each read []) (rows_are keys ds es agree)
-    ∙ (ap (λ n. needs fault (if are_tables es && is_within low high n then Some (tables_of ds) else None) >>= each read []) (rows_many keys ds es agree)
-    ∙ chosen fault (are_tables es && is_within low high (length (tables_of es))) (tables_of ds) (tables_of es) (each read []) (rows_read keys read alike ds es agree []))
+use Rattle.description_laws.proofs.Rows.{bind_same, some_rows}
+use Rattle.description_laws.specs.Keys.{AgreeAt, SameTable, SameRows, TellTheSame, head_keys, unit_keys, clock_keys, binary_keys, terminal_keys}
 
 head_same : (t u : Members) → AgreeAt head_keys t u → SameTable unit_keys (codes "CoSimulation") t u → head_of t ≡ head_of u
 unfolding head_of
 head_same t u h (inl same) = rw (h.0, h.1.0, h.1.1.0, same) refl
-head_same t u h (inr k) = rw (h.0, h.1.0, h.1.1.0, k.at_one, k.at_other, k.agree.is_one, k.agree.is_other, k.agree.agree.0, k.agree.agree.1.0) refl
+head_same t u h (inr k) =
+    rw (h.0, h.1.0, h.1.1.0, k.at_one, k.at_other, k.agree.is_one, k.agree.is_other, k.agree.agree.0, k.agree.agree.1.0) refl
 
 clock_same : (before : List ClockVariable) (t u : Members) → AgreeAt clock_keys t u → clock_of before t ≡ clock_of before u
 unfolding clock_at
 clock_same before t u h = rw (h.0, h.1.0, h.1.1.0, h.1.1.1.0) refl
 
-binary_same : (clocks : List ClockVariable) (before : List BinaryVariable) (t u : Members) → AgreeAt binary_keys t u → binary_of clocks before t ≡ binary_of clocks before u
+binary_same : (clocks : List ClockVariable) (before : List BinaryVariable) (t u : Members) → AgreeAt binary_keys t u
+    → binary_of clocks before t ≡ binary_of clocks before u
 unfolding binary_at
 binary_same clocks before t u h = rw (h.0, h.1.0, h.1.1.0, h.1.1.1.0, h.1.1.1.1.0) refl
 
-terminal_same : (binaries : List BinaryVariable) (before : List Terminal) (t u : Members) → AgreeAt terminal_keys t u → terminal_of binaries before t ≡ terminal_of binaries before u
+terminal_same : (binaries : List BinaryVariable) (before : List Terminal) (t u : Members) → AgreeAt terminal_keys t u
+    → terminal_of binaries before t ≡ terminal_of binaries before u
 unfolding terminal_at
 terminal_same binaries before t u h = rw (h.0, h.1.0, h.1.1.0, h.1.1.1.0, h.1.1.1.1.0) refl
 
 clocks_same : (t u : Members) → SameRows clock_keys (codes "Clock") t u → clocks_of t ≡ clocks_of u
 unfolding clocks_of
 clocks_same t u (inl same) = rw same refl
-clocks_same t u (inr k) = rw (k.at_one, k.at_other) (some_rows clock_keys (refusal field.Clock 0) 0 64 clock_of clock_same k.one k.other k.agree)
+clocks_same t u (inr k) =
+    rw (k.at_one, k.at_other) (some_rows clock_keys (refusal field.Clock 0) 0 64 clock_of clock_same k.one k.other k.agree)
 
-binaries_same : (clocks : List ClockVariable) (t u : Members) → SameRows binary_keys (codes "Binary") t u → binaries_of clocks t ≡ binaries_of clocks u
+binaries_same : (clocks : List ClockVariable) (t u : Members) → SameRows binary_keys (codes "Binary") t u
+    → binaries_of clocks t ≡ binaries_of clocks u
 unfolding binaries_of
 binaries_same clocks t u (inl same) = rw same refl
-binaries_same clocks t u (inr k) = rw (k.at_one, k.at_other) (some_rows binary_keys (refusal field.Binary 0) 0 64 (binary_of clocks) (binary_same clocks) k.one k.other k.agree)
+binaries_same clocks t u (inr k) =
+    rw (k.at_one, k.at_other)
+    (some_rows binary_keys (refusal field.Binary 0) 0 64 (binary_of clocks) (binary_same clocks) k.one k.other k.agree)
 
-terminals_same : (binaries : List BinaryVariable) (t u : Members) → SameRows terminal_keys (codes "Terminal") t u → terminals_of binaries t ≡ terminals_of binaries u
+terminals_same : (binaries : List BinaryVariable) (t u : Members) → SameRows terminal_keys (codes "Terminal") t u
+    → terminals_of binaries t ≡ terminals_of binaries u
 unfolding terminals_of
 terminals_same binaries t u (inl same) = rw same refl
-terminals_same binaries t u (inr k) = rw (k.at_one, k.at_other) (some_rows terminal_keys (refusal field.Terminal 0) 1 4 (terminal_of binaries) (terminal_same binaries) k.one k.other k.agree)
+terminals_same binaries t u (inr k) =
+    rw (k.at_one, k.at_other)
+    (some_rows terminal_keys (refusal field.Terminal 0) 1 4 (terminal_of binaries) (terminal_same binaries) k.one k.other k.agree)
 
 document_same : (t u : Members) → TellTheSame t u → description_in t ≡ description_in u
 unfolding description_in
@@ -111,5 +72,7 @@ in_document : (bytes : List ℕ) (t : Members) → length bytes ≤ most_bytes �
 unfolding description_of
 in_document bytes t h found = rw (fits (length bytes) most_bytes h, found) refl
 
-pub told_the_same : (one other : List ℕ) (t u : Members) → length one ≤ most_bytes → length other ≤ most_bytes → document one ≡ Some t → document other ≡ Some u → TellTheSame t u → description_of one ≡ description_of other
-told_the_same one other t u short shorter is_one is_other same = in_document one t short is_one ∙ (document_same t u same ∙ sym (in_document other u shorter is_other))
+pub told_the_same : (one other : List ℕ) (t u : Members) → length one ≤ most_bytes → length other ≤ most_bytes
+    → document one ≡ Some t → document other ≡ Some u → TellTheSame t u → description_of one ≡ description_of other
+told_the_same one other t u short shorter is_one is_other same =
+    in_document one t short is_one ∙ (document_same t u same ∙ sym (in_document other u shorter is_other))

@@ -6,6 +6,3 @@ mod variable;
 
 pub use field::Field;
 pub use variable::{BinaryVariable, Causality, ClockVariable, IntervalVariability};
-
-#[cfg(test)]
-mod tests;

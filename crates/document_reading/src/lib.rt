@@ -10,6 +10,3 @@ pub use document::{DocumentError, read_document};
 pub use numbers::{number_at, number_of};
 pub use rows::{only, optional_tables, row, table_at, tables};
 pub use texts::{at, flag_at, identifier_at, text_at};
-
-#[cfg(test)]
-mod tests;

@@ -1,6 +1,6 @@
 -- A loop over a list does what the pieces for its items in order come to.
 use Rattle.std.proofs.Common.{◌≡◌, ◌<◌, sym, ◌∙◌, ◌+◌, ℕ, List, length, get_or, drop, Result, Ok, Err, add-one, drop-cons, refl}
-use Rattle.bus_log.specs.Lines.{cause_of}
+use Rattle.log_lines.specs.Lines.{cause_of}
 use Rattle.log_specs.specs.Line.{Cause}
 use Rattle.session_specs.specs.Sequence.{in_order}
 use Rattle.ecu_session.specs.declared.causes.Stop.{Stop}

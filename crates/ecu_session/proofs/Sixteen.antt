@@ -2,7 +2,7 @@
 use Rattle.std.proofs.Common.{◌≡◌, ◌<◌, ◌≤◌, sym, ◌+◌, ℕ, List, ◌-◌, suc, Result, Ok, Err, true, false, arith, ◌∙◌, zero, refl}
 use Rattle.fmi_states.specs.declared.call.Call.{Call}
 use Rattle.fmi_states.specs.declared.reply.Reply.{Reply}
-use Rattle.bus_log.specs.Lines.{cause_of}
+use Rattle.log_lines.specs.Lines.{cause_of}
 use Rattle.log_specs.specs.Line.{Cause, Loop}
 use Rattle.unit_specs.specs.Description.{Terminal}
 use Rattle.session_specs.specs.Outcome.{Emission}

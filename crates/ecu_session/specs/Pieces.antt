@@ -1,6 +1,6 @@
 -- What a call of the code leaves of a piece of a session. No public clause cites this file.
 use Rattle.std.specs.Prelude.{◌≡◌, Result, Ok, Err}
-use Rattle.bus_log.specs.Lines.{cause_of}
+use Rattle.log_lines.specs.Lines.{cause_of}
 use Rattle.log_specs.specs.Line.{Cause}
 use Rattle.ecu_session.specs.declared.causes.Stop.{Stop}
 use Rattle.ecu_session.specs.declared.causes.Stop.TheVariants as stop

@@ -1,5 +1,5 @@
 -- What the enums of the code stand for. Public clauses cite this file.
-use Rattle.bus_log.specs.Lines.{cause_of}
+use Rattle.log_lines.specs.Lines.{cause_of}
 use Rattle.session_specs.specs.Outcome as outcome
 use Rattle.session_specs.specs.Replies as replies
 use Rattle.ecu_session.specs.declared.ends.End.{End}

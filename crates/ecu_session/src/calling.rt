@@ -3,14 +3,14 @@ ghost use Rattle.std.specs.Prelude.{◌≡◌, IsTrue, OnOk, true, option_map, i
 ghost use Rattle.fmi_states.specs.Phase.{is_permitted, phase_after};
 ghost use Rattle.fmi_states.specs.Unit.{StaysApart};
 ghost use Rattle.fmi_states.specs.declared.call.Call.TheVariants.{Free};
-ghost use Rattle.bus_log.specs.Lines.{cause_of};
+ghost use Rattle.log_lines.specs.Lines.{cause_of};
 ghost use Rattle.session_specs.specs.Replies.{fault_of, status_fault, is_freed_behind};
 ghost use Rattle.session_specs.specs.Session.{effect_of};
 ghost use Rattle.ecu_session.specs.Pieces.{ComesTo, UnlessMemory};
 
 use crate::causes::Stop;
-use bus_log::Cause;
 use fmi_states::{Broken, Call, Ecu, FmiStatus, Reply};
+use log_lines::Cause;
 use std::alloc::{AllocError, Global};
 
 fn status_fault(status: FmiStatus) -> Option<Cause>

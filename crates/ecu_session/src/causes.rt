@@ -1,5 +1,5 @@
 //! Why a piece of a session stops.
-use bus_log::Cause;
+use log_lines::Cause;
 use std::alloc::AllocError;
 
 /// Why a piece of a session stops.

@@ -1,5 +1,5 @@
 //! How a session ends.
-use bus_log::Cause;
+use log_lines::Cause;
 
 /// How a session ends.
 #[derive(Clone, Copy, Debug, PartialEq, Eq)]

@@ -12,8 +12,8 @@ use crate::calling::make_call;
 use crate::causes::Stop;
 use crate::dues::{DueChange, Dues};
 use crate::inputs::SessionIn;
-use bus_log::Cause;
 use fmi_states::{Call, Ecu, Qualifier, Reply};
+use log_lines::Cause;
 use std::alloc::Global;
 use tick_time::scale;
 

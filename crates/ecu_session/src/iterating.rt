@@ -12,10 +12,10 @@ ghost use Rattle.ecu_session.specs.Pieces.{ComesTo, UnlessMemory};
 use crate::calling::make_call;
 use crate::causes::Stop;
 use crate::emissions::{Emission, Emissions};
-use bus_log::Cause;
 use can_frame::Bytes;
 use fmi_states::{Call, Ecu, Reply};
 use fmu_description::Terminal;
+use log_lines::Cause;
 use std::alloc::Global;
 
 fn ticks(reply: &Reply) -> bool

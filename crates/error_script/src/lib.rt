@@ -4,6 +4,3 @@
 mod script;
 
 pub use script::{ErrorEntry, ErrorList};
-
-#[cfg(test)]
-mod tests;

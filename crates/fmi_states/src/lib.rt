@@ -23,6 +23,3 @@ pub use phase::{Phase, next, permitted};
 pub use replies::Replies;
 pub use reply::{Broken, Qualifier, Reply, suits};
 pub use status::FmiStatus;
-
-#[cfg(test)]
-mod tests;

@@ -15,6 +15,3 @@ pub use description::{Description, Terminal};
 pub use description_specs::Field;
 pub use error::DescError;
 pub use reading::read_description;
-
-#[cfg(test)]
-mod tests;

@@ -7,11 +7,7 @@ mod layout;
 mod lengths;
 mod listing;
 mod packed;
-#[cfg(test)]
-mod tests;
 mod times;
-#[cfg(test)]
-mod vectors;
 
 pub use laws::{no_six_equal_bits_in_a_row, one_stuff_bit_for_four_bits};
 pub use lengths::{ack_bit, stuffed_len, wire_len};

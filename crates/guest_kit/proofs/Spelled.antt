@@ -1,10 +1,9 @@
 -- The program is spelled by some bytes, whatever its memory holds.
-use Rattle.std.proofs.Common.{◌≡◌, ℕ, zero, suc, ◌+◌, ◌<◌, ◌≤◌, ◌^◌, Bool, true, false, List, [], ◌∷◌, ◌++◌, length, Ok, refl, sym, ap, subst, ◌∙◌, arith, length-append, append-nil, append_assoc, pos}
-use Rattle.std.specs.Prelude.{if◌then◌else◌}
+use Rattle.std.proofs.Common.{◌≡◌, ℕ, ◌+◌, ◌<◌, ◌≤◌, ◌^◌, List, [], ◌∷◌, ◌++◌, length, Ok, refl, sym, ap, subst, ◌∙◌, arith, length-append, append-nil, append_assoc, pos}
 use Rattle.std.specs.Str.{is_utf8, chars}
 use Rattle.std.specs.Char.{encode_utf8}
 use Rattle.std.proofs.lemmas.List.Elements.{All-from_recursion}
-use Rattle.leb_bytes.specs.Writing.{shortest, unsigned_text, signed_text, is_narrow_unsigned, low_unsigned, high_unsigned}
+use Rattle.leb_bytes.specs.Writing.{shortest, unsigned_text, signed_text}
 use Rattle.leb_bytes.proofs.Spelled.{IsBytes, bytes_of_all}
 use Rattle.leb_bytes.proofs.Splitting.{unsigned_spelled, signed_spelled}
 use Rattle.wasm_types.specs.declared.instr.ValType.TheVariants.{I32}
@@ -22,8 +21,9 @@ use Rattle.module_specs.proofs.Sections.{sections_here}
 use Rattle.wasm_writer.specs.Texts.{vector_text, sized_text}
 use Rattle.wasm_writer.specs.ModuleTexts.{constant_text, data_text, section_text}
 use Rattle.wasm_writer.specs.Building.{segment_at}
-use Rattle.wasm_writer.specs.Shortest.{IsSpelled}
+use Rattle.module_specs.specs.Spelled.{IsSpelled}
 use Rattle.wasm_writer.proofs.Bodies.{tell}
+use Rattle.wasm_writer.proofs.NumberSizes.{unsigned_most}
 use Rattle.module_specs.specs.declared.section.SectionKind.TheVariants as kind
 use Rattle.guest_kit.specs.Program.{types, functions, exports, program}
 use Rattle.guest_kit.specs.Guests.{numbers_of, guest_module}
@@ -102,21 +102,8 @@ at_second = (0x41 ∷ signed_text (pos 32768), 0x0B ∷ [], refl, (pos 32768, re
 
 -- ---- how long it is
 
-at_most : {A : Type 0} (is_narrow : A → Bool) (low : A → ℕ) (high : A → A) (most : ℕ) (n : A) → length (shortest is_narrow low high most n) ≤ most
-unfolding shortest
-at_most is_narrow low high zero n = omega arith
-at_most is_narrow low high (suc most) n = by_test (is_narrow n) (at_most is_narrow low high most (high n))
-  where
-    by_test : (t : Bool) → length (shortest is_narrow low high most (high n)) ≤ most
-        → length (if t then low n ∷ [] else ((128 + low n) ∷ shortest is_narrow low high most (high n))) ≤ suc most
-    by_test true rest = omega arith
-    by_test false rest = omega (arith, rest)
-
-few : (n : ℕ) → length (unsigned_text n) ≤ 10
-few n = at_most is_narrow_unsigned low_unsigned high_unsigned 10 n
-
 sized_few : (content : List ℕ) → length (sized_text content) ≤ 10 + length content
-sized_few content = omega (arith, length-append (unsigned_text (length content)) content, few (length content))
+sized_few content = omega (arith, length-append (unsigned_text (length content)) content, unsigned_most (length content))
 
 first_few : length (constant_text (constant 0)) ≡ 3
 unfolding shortest
@@ -146,7 +133,7 @@ module _ (numbers opening : List ℕ) (n : length numbers ≤ 168) (o : length o
 
   content_few : length content ≤ 6000
   content_few =
-      omega (arith, n, o, length-append (unsigned_text 2) (one ++ (two ++ [])), few 2, length-append one (two ++ []), length-append two [], data_few 0 numbers, data_few 32768 opening, first_few, second_few)
+      omega (arith, n, o, length-append (unsigned_text 2) (one ++ (two ++ [])), unsigned_most 2, length-append one (two ++ []), length-append two [], data_few 0 numbers, data_few 32768 opening, first_few, second_few)
 
   abbrev pub last : List ℕ
   last = section_text kind.Data content

@@ -11,6 +11,3 @@ mod program;
 pub use description::description_of;
 pub use guests::{echo, flooder, gateway, listener, sender, sleeper};
 pub use laws::{guests_are_read_back, guests_are_units};
-
-#[cfg(test)]
-mod tests;

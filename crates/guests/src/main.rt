@@ -3,7 +3,7 @@
 //!     guests listener | echo | gateway | flooder
 //!     guests sender FRAME COUNTER RESOLUTION
 //!     guests sleeper FRAME
-//!     guests description NAME TERMINALS [timer]
+//!     guests description TERMINALS [timer]
 //!
 //! A FRAME is as in the texts of plays, as `123#0a0b`. The exit status is 0, or 2 where the words are none of these, and
 //! 7 where memory or the output failed.

@@ -1,9 +1,6 @@
 //! The log of a network doesn't depend on how the states of its units are held.
 #![tactic(auto)]
 
-#[cfg(test)]
-mod tests;
-
 ghost use Rattle.std.specs.Prelude.{◌≡◌, ℕ, List, map};
 ghost use Rattle.fmi_states.specs.declared.call.Call.{Call};
 ghost use Rattle.fmi_states.specs.declared.phase.Phase.{Phase};

@@ -22,7 +22,8 @@ use Rattle.bus_sound.proofs.Quiet.{take_inbox-sound}
 use Rattle.log_laws.proofs.Rows.{map-append}
 use Rattle.log_laws.proofs.Due.{within-stop}
 use Rattle.log_laws.proofs.Timed.{InOrder, before-all, stays-in-order, opening-in-order, rising-lower}
-use Rattle.log_laws.proofs.Played.{RunBus, RunWorld, steady, take-steady, action_step-sound, after-sound, opening-sound}
+use Rattle.log_laws.proofs.Played.{RunBus, RunWorld, steady, action_step-sound, after-sound, opening-sound}
+use Rattle.bus_sound.proofs.Steady.{take-steady}
 use Rattle.log_laws.proofs.Followed.{all-pairs}
 use Rattle.log_laws.specs.Scenarios.{Acts, IsScenario}
 use Rattle.log_laws.specs.Moments.{Rising, ByMoment}

@@ -26,7 +26,8 @@ use Rattle.log_laws.proofs.Moments.{Some_lines}
 use Rattle.log_laws.proofs.Due.{Asked, due-or-asked, finish-due, notices-due, event-some}
 use Rattle.log_laws.proofs.Timed.{InOrder, stays-in-order, opening-in-order, rising-filter}
 use Rattle.log_laws.proofs.Left.{last-same}
-use Rattle.log_laws.proofs.Played.{RunBus, RunWorld, steady, take-steady, action_step-sound, after-sound, opening-sound}
+use Rattle.log_laws.proofs.Played.{RunBus, RunWorld, steady, action_step-sound, after-sound, opening-sound}
+use Rattle.bus_sound.proofs.Steady.{take-steady}
 use Rattle.log_laws.proofs.Followed.{all-pairs}
 use Rattle.log_laws.proofs.Freshness.{NoNotice, takes-fewer, all-take, submit-none}
 

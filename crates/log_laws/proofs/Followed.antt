@@ -22,7 +22,8 @@ use Rattle.log_laws.proofs.Takes.{take-follows, take-offered, recover-follows, r
 use Rattle.log_laws.proofs.Begun.{start-follows, start-offered}
 use Rattle.log_laws.proofs.Ended.{finish-follows, finish-offered}
 use Rattle.log_laws.proofs.Due.{Ends, own-finish}
-use Rattle.log_laws.proofs.Played.{RunBus, RunWorld, steady, take-steady, action_step-sound, own-start, after-sound, opening-sound}
+use Rattle.log_laws.proofs.Played.{RunBus, RunWorld, steady, action_step-sound, own-start, after-sound, opening-sound}
+use Rattle.bus_sound.proofs.Steady.{take-steady}
 use Rattle.bus_sound.proofs.Quiet.{one, take_inbox-sound}
 
 -- steps one after another, with the lines so far

@@ -1,14 +1,13 @@
 -- In a scenario the bus is sound behind any number of events.
-use Rattle.std.proofs.Common.{◌≡◌, ℕ, zero, suc, ◌+◌, ◌==◌, ◌⊎◌, Bool, true, false, if◌then◌else◌, List, [], ◌∷◌, map, filter, fold, All, Option, Some, None, arith, sym, refl, ap, ◌∙◌, subst, inl, inr, eq-eqb}
+use Rattle.std.proofs.Common.{◌≡◌, ℕ, zero, suc, ◌==◌, ◌⊎◌, Bool, true, false, if◌then◌else◌, List, [], ◌∷◌, filter, fold, All, Option, Some, None, arith, sym, refl, ap, ◌∙◌, subst, inl, inr, eq-eqb}
 use Rattle.std.specs.Prelude.{nat_le, nat_lt, option_map}
 use Rattle.std.proofs.lemmas.Bool.{both_ways, eqb-true}
-use Rattle.frame_specs.specs.Frame.{Frame}
 use Rattle.log_specs.specs.Line.{Line}
-use Rattle.bus_specs.specs.Bus.{Bus, Member, Request, Running, new_bus, with_member, bits, winner}
-use Rattle.bus_specs.specs.Submit.{Submission, Transmit, Keep, Discard, Wakeup, Sleep, Rate, FdRate, Declare, FormatError, Unfit, Fate, Accepted, Full, Dropped, fate, with_request, submit, member_after_wakeup, wake_notice, submission_of, format_notice}
-use Rattle.bus_specs.specs.Inbox.{enter, take_inbox, member_after_inbox}
-use Rattle.bus_specs.specs.Start.{start, start_with, member_after_start, discarded}
-use Rattle.bus_specs.specs.Finish.{finish, finish_with, recover, member_after_return, member_after_finish}
+use Rattle.bus_specs.specs.Bus.{Bus, Member, new_bus}
+use Rattle.bus_specs.specs.Submit.{submission_of}
+use Rattle.bus_specs.specs.Inbox.{enter, take_inbox}
+use Rattle.bus_specs.specs.Start.{start}
+use Rattle.bus_specs.specs.Finish.{finish, recover}
 use Rattle.run_specs.specs.Order.{better_of}
 use Rattle.bus_specs.specs.Due.{Due, What, Finish, Return, Notices, Start, rank, at, precedes, next_due}
 use Rattle.run_specs.specs.Run.{behind, then_from}
@@ -19,6 +18,7 @@ use Rattle.bus_sound.proofs.Among.{Among, filter-among}
 use Rattle.bus_sound.proofs.Lists.{All-each, each-All, among-map, map-among, any_to}
 use Rattle.bus_sound.proofs.Members.{KeepsNodes, nodes_of, nodes-map, is_from}
 use Rattle.bus_sound.proofs.Quiet.{one, enter-sound, take_inbox-sound, recover-sound}
+use Rattle.bus_sound.proofs.Steady.{Steady, submit-steady, start-steady, finish-steady, recover-steady, take-steady}
 use Rattle.bus_sound.proofs.Opened.{new_bus-sound, new_member-nodes}
 use Rattle.bus_sound.proofs.Submitted.{submit-sound, submission_of-fits}
 use Rattle.bus_sound.proofs.Started.{start-sound}
@@ -35,14 +35,6 @@ pub record RunWorld (p : Scenario) (w : World) : Type 0 where
   pub bus : RunBus p w.bus
   pub ahead : All (Acts p) w.ahead
 
--- a step that changes members one by one, each staying live under its node
-pub record Steady (b after : Bus) : Type 0 where
-  setup : after.setup ≡ b.setup
-  change : Member → Member
-  members : after.members ≡ map change b.members
-  node : KeepsNodes change
-  live : (m : Member) → m.live ≡ true → (change m).live ≡ true
-
 pub steady : (p : Scenario) (b after : Bus) → RunBus p b → Steady b after → Sound after → RunBus p after
 steady p b after h s sound = record {
   sound = sound;
@@ -52,81 +44,6 @@ steady p b after h s sound = record {
       let r = map-among s.change b.members m (subst (λ ms. Among ms m) s.members a) in
       subst (λ (x : Member). x.live ≡ true) r.2 (s.live r.0 (h.live r.0 r.1));
 }
-
--- all as it was
-map-same : (ms : List Member) → ms ≡ map (λ m. m) ms
-map-same [] = refl
-map-same (m ∷ ms) = ap (λ l. m ∷ l) (map-same ms)
-
-still : (b after : Bus) → after.setup ≡ b.setup → after.members ≡ b.members → Steady b after
-still b after e f = record { setup = e; change = λ m. m; members = f ∙ map-same b.members; node = λ m. refl; live = λ m k. k }
-
-one-steady : (b : Bus) (node : ℕ) (change : Member → Member) → KeepsNodes change → ((m : Member) → m.live ≡ true → (change m).live ≡ true)
-    → Steady b (with_member b node change)
-one-steady b node change n l = record { setup = refl; change = one node change; members = refl; node = λ m. by_node m (m.node == node); live = λ m k. by_live m (m.node == node) k }
-  where
-    by_node : (m : Member) (t : Bool) → (if t then change m else m).node ≡ m.node
-    by_node m true = n m
-    by_node m false = refl
-
-    by_live : (m : Member) (t : Bool) → m.live ≡ true → (if t then change m else m).live ≡ true
-    by_live m true k = l m k
-    by_live m false k = k
-
-member_after_wakeup-steady : (b : Bus) (node due : ℕ) → Steady b (record b { members = map (member_after_wakeup node due) b.members })
-member_after_wakeup-steady b node due = record { setup = refl; change = member_after_wakeup node due; members = refl; node = λ m. by_node m (m.node == node) m.live; live = λ m k. by_live m (m.node == node) m.live k }
-  where
-    by_node : (m : Member) (t u : Bool) → (if t then record m { awake = true } else if u then record m { wake = wake_notice due m.wake } else m).node ≡ m.node
-    by_node m true u = refl
-    by_node m false true = refl
-    by_node m false false = refl
-
-    by_live : (m : Member) (t u : Bool) → m.live ≡ true → (if t then record m { awake = true } else if u then record m { wake = wake_notice due m.wake } else m).live ≡ true
-    by_live m true u k = k
-    by_live m false true k = k
-    by_live m false false k = k
-
-fate-steady : (b : Bus) (node : ℕ) (f : Frame) (x : Fate) → Steady b (with_request b node f x)
-fate-steady b node f Accepted = still b (with_request b node f Accepted) refl refl
-fate-steady b node f Full = still b b refl refl
-fate-steady b node f Dropped = still b b refl refl
-
-submit-steady : (b : Bus) (now node : ℕ) (what : Submission) → Steady b (submit b now node what).0
-unfolding submit
-submit-steady b now node (Transmit f) = fate-steady b node f (fate b node)
-submit-steady b now node Keep = one-steady b node (λ m. record m { discards = false }) (λ m. refl) (λ m k. k)
-submit-steady b now node Discard = one-steady b node (λ m. record m { discards = true }) (λ m. refl) (λ m k. k)
-submit-steady b now node Wakeup = member_after_wakeup-steady b node (now + bits b 1)
-submit-steady b now node Sleep = one-steady b node (λ m. record m { awake = false }) (λ m. refl) (λ m k. k)
-submit-steady b now node (Rate v) = still b b refl refl
-submit-steady b now node (FdRate v) = still b b refl refl
-submit-steady b now node (Declare l) = still b b refl refl
-submit-steady b now node (FormatError bytes) = still b b refl refl
-submit-steady b now node (Unfit bytes) = one-steady b node (λ m. record m { format = format_notice (now + bits b 1) bytes m.format }) (λ m. refl) (λ m k. k)
-
-start-steady : (b : Bus) (now : ℕ) → Steady b (start b now).0
-unfolding start
-start-steady b now = go (winner b now)
-  where
-    go : (o : Option Request) → Steady b (start_with b now o).0
-    go None = still b b refl refl
-    go (Some w) = record { setup = refl; change = member_after_start b now (discarded b now w.node); members = refl; node = λ m. refl; live = λ m k. k }
-
-finish-steady : (b : Bus) (now : ℕ) → Steady b (finish b now).0
-unfolding finish
-finish-steady b now = go b.running
-  where
-    go : (o : Option Running) → Steady b (finish_with b now o).0
-    go None = still b b refl refl
-    go (Some r) = record { setup = refl; change = member_after_finish r; members = refl; node = λ m. refl; live = λ m k. k }
-
-recover-steady : (b : Bus) (now node : ℕ) → Steady b (recover b now node).0
-unfolding recover
-recover-steady b now node = one-steady b node member_after_return (λ m. refl) (λ m k. k)
-
-pub take-steady : (b : Bus) (now node : ℕ) → Steady b (take_inbox b now node).0
-unfolding take_inbox
-take-steady b now node = one-steady b node (member_after_inbox now) (λ m. refl) (λ m k. k)
 
 -- steps one after another
 all-along : {A : Type 0} (P : Bus → Type 0) (step : Bus → A → Bus × List Line) (xs : List A) (so_far : Bus × List Line)

@@ -29,7 +29,8 @@ use Rattle.log_laws.proofs.Known.{Offered}
 use Rattle.log_laws.proofs.Offers.{takes-part, ready}
 use Rattle.log_laws.proofs.Moments.{IsAt, IsNoStart, Quiet, quiet-append, finish-quiet, recover-quiet, submit-quiet, take-quiet, losses-quiet, Some_lines}
 use Rattle.log_laws.proofs.Due.{own-finish, start-least, event-some}
-use Rattle.log_laws.proofs.Played.{RunBus, RunWorld, steady, take-steady, action_step-sound, own-start, after-sound, opening-sound}
+use Rattle.log_laws.proofs.Played.{RunBus, RunWorld, steady, action_step-sound, own-start, after-sound, opening-sound}
+use Rattle.bus_sound.proofs.Steady.{take-steady}
 use Rattle.log_laws.proofs.Followed.{event-goes, opening-agrees, all-pairs}
 
 flat-nothing : {X Y : Type 0} (f : X → List Y) (p : X → Bool) (xs : List X) → ((x : X) → Among xs x → p x ≡ true → f x ≡ []) → flat_map f (filter p xs) ≡ []

@@ -1,10 +1,13 @@
 -- The lines that were written, and those behind them.
-use Rattle.std.proofs.Common.{◌≡◌, ◌<◌, ◌+◌, ℕ, List, [], ◌∷◌, ◌++◌, map, take, drop, length, get_or, refl, sym, ap, append_assoc, ◌∙◌}
+use Rattle.std.proofs.Common.{◌≡◌, ◌≤◌, ◌<◌, ◌+◌, ℕ, List, [], ◌∷◌, ◌++◌, map, take, drop, length, get_or, refl, sym, ap, append_assoc, append-nil, subst, ◌∙◌}
 use Rattle.std.proofs.lemmas.List.{map-append, take_more, at_drop_more, take-append-drop}
 use Rattle.std.specs.Prelude.{Result, Ok, Err, OnOk, IfOk}
 use Rattle.bench_outside.specs.declared.sink.Sink.{Ghosts}
 use Rattle.bench_outside.specs.Pieces.{WritesAll, BreaksOff, StopsBefore}
 use Rattle.bench_outside.specs.PieceSteps.{writes_behind, breaks_behind, stops_at, stops_behind}
+use Rattle.bench_outside.specs.Causes.{Rose}
+use Rattle.log_writing.specs.declared.ending.RunError.{RunError}
+use Rattle.log_writing.specs.Written.{WritesOrBreaksOff}
 
 -- one line more
 pub take-line : {L : Type 0} (lines : List L) (i : ℕ) (line : L) → i < length lines → line ≡ get_or lines i line
@@ -65,3 +68,17 @@ on_ok (Err e) f h = tt
 pub if_ok : {T E : Type 0} {P Q : T → Type 0} (r : Result T E) → ((x : T) → P x → Q x) → IfOk r P → IfOk r Q
 if_ok (Ok x) f h = f x h
 if_ok (Err e) f h = tt
+
+-- a call that writes all that is left, behind lines that were written
+pub written-behind : {S L T : Type 0} (sink : Ghosts S) (text : L → List ℕ) (a b c : S) (before next all : List L) (result : Result T RunError)
+    → before ++ next ≡ all → WritesAll sink a b (map text before) → sink.faults b ≡ sink.faults a
+    → WritesOrBreaksOff sink b c (map text next) result → WritesOrBreaksOff sink a c (map text all) result
+written-behind sink text a b c before next all result whole first same second = record {
+  log = on_ok result (wrote-behind sink text a b c before next all whole first) second.log;
+  part = λ unwritten. broke-behind sink text a b c before next [] all (append-nil (before ++ next) ∙ whole) first (second.part unwritten);
+  stopped = λ memory. stopped-behind sink text a b c before next [] all (append-nil (before ++ next) ∙ whole) first (second.stopped memory);
+  unwritten = λ unwritten. subst (λ n. Rose n (sink.faults c)) same (second.unwritten unwritten);
+  memory = λ memory. second.memory memory ∙ same;
+  kept = on_ok result (λ kept. kept ∙ same) second.kept;
+  later = subst (λ n. n ≤ sink.faults c) same second.later;
+}

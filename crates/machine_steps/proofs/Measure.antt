@@ -1,6 +1,6 @@
 -- Each step takes fuel or closes a list or a function, and leaves no fewer bytes than there were.
-use Rattle.std.proofs.Common.{◌≡◌, ℕ, zero, suc, ◌+◌, ◌*◌, ◌<◌, ◌≤◌, List, [], ◌∷◌, ◌++◌, length, Option, Some, None, subst, sym, arith, length-drop, length-append, drop, Bool, true, false, cond}
-use Rattle.std.specs.Prelude.{Ok, Err, take, negsuc, map, slice_get, slice_set, slice_index_or, reverse, replicate, nat_lt, nat_le, ◌==◌}
+use Rattle.std.proofs.Common.{ℕ, zero, suc, ◌+◌, ◌*◌, ◌<◌, ◌≤◌, List, [], ◌∷◌, ◌++◌, length, Option, Some, None, arith, length-drop, drop, Bool, true, false, cond}
+use Rattle.std.specs.Prelude.{Ok, Err, map, slice_get, slice_set, slice_index_or, reverse, replicate, nat_lt, ◌==◌}
 use Rattle.wasm_types.specs.declared.instr.ValType.{ValType}
 use Rattle.wasm_types.specs.declared.instr.Instr.{Instr}
 use Rattle.wasm_types.specs.declared.instr.Instr.TheVariants as instr
@@ -10,17 +10,15 @@ use Rattle.wasm_types.specs.declared.module.Module.{Module}
 use Rattle.wasm_types.specs.Modules.{NestedModule}
 use Rattle.code_specs.specs.declared.trap.TrapKind.TheVariants as trap
 use Rattle.code_specs.specs.Values.{Split, split_first}
-use Rattle.code_specs.specs.Integers.{unsigned}
-use Rattle.code_specs.specs.Numerics.{binary}
-use Rattle.code_specs.specs.Stores.{Store, page_size, pages, greatest_pages, bytes_of, bytes_at, replaced_at}
-use Rattle.code_specs.specs.Signatures.{Signature, is_same_type, type_of_function, signature_of, types_of, access_bytes}
+use Rattle.code_specs.specs.Stores.{Store}
+use Rattle.code_specs.specs.Signatures.{Signature, is_same_type, type_of_function, signature_of, types_of}
 use Rattle.code_specs.specs.Instances.{table_of}
-use Rattle.code_specs.specs.Effects.{Effect, Continues, ReadsLocal, WritesLocal, Branches, Returns, Calls, Traps, Meaning, bare, on_split, on_one, on_i32, after_meaning, plain_effect, meaning_of, store_meaning, branch_if, selection, checked_call, indirect_call, effect_of}
+use Rattle.code_specs.specs.Effects.{Effect, Continues, ReadsLocal, WritesLocal, Branches, Returns, Calls, Traps, Meaning, bare, on_split, on_one, on_i32, after_meaning, plain_effect, meaning_of, branch_if, selection, checked_call, indirect_call, effect_of}
 use Rattle.code_specs.specs.Effects as effect
 use Rattle.code_specs.specs.Execution.{Answer, Returned, Trapped, Spent, Stuck}
 use Rattle.code_laws.specs.Kept.{HasBytes}
 use Rattle.code_laws.proofs.Kept.{KeepsMeaning}
-use Rattle.code_laws.proofs.Ranges.{numeric_keeps, load_keeps}
+use Rattle.code_laws.proofs.Growth.{bytes_kept}
 use Rattle.machine_steps.specs.declared.frame.Label.{Label}
 use Rattle.machine_steps.specs.declared.frame.Frame.{Frame}
 use Rattle.machine_steps.specs.Steps.{Step, Go, Stop, where_found, where_split, with_function, back, returning, most_callers, calling, closed_by, landing, branching, closing, block_label, other_list, choosing, doing, executing, step_of}
@@ -38,38 +36,6 @@ Falls n k (Go func position base depth values labels callers s f) = (2 * f + (le
 Falls n k (Stop a) = AtLeast k a
 
 -- ---- instructions
-
-no_fewer : (bytes : List ℕ) (address : ℕ) (new : List ℕ) → length bytes ≤ length (replaced_at bytes address new)
-no_fewer bytes zero new =
-    omega (arith, length-append new (drop (0 + length new) bytes), length-drop (0 + length new) bytes)
-no_fewer [] (suc address) new = omega arith
-no_fewer (b ∷ bytes) (suc address) new =
-    let shift : suc address + length new ≡ suc (address + length new) = omega arith in
-    subst (λ (n : ℕ). length (b ∷ bytes) ≤ length (replaced_from b bytes address new n)) (sym shift) (omega (arith, no_fewer bytes address new))
-  where
-    replaced_from : ℕ → List ℕ → ℕ → List ℕ → ℕ → List ℕ
-    replaced_from b bytes address new n = b ∷ (take address bytes ++ (new ++ drop n (b ∷ bytes)))
-
-store_keeps : (k address : ℕ) (new : List ℕ) (s : Store) (o : Option (List ℕ)) → HasBytes k s → KeepsMeaning (HasBytes k) (store_meaning address new s o)
-store_keeps k address new s None h = tt
-store_keeps k address new s (Some old) h = omega (arith, h, no_fewer s.bytes address new)
-
-grow_keeps : (k more : ℕ) (s : Store) (b : Bool) → HasBytes k s
-    → KeepsMeaning (HasBytes k) (cond b (Ok (record { number = pages s; store = record s { bytes = s.bytes ++ replicate (more * page_size) 0 } })) (Ok (record { number = unsigned 32 (negsuc 0); store = s })))
-grow_keeps k more s true h = omega (arith, h, length-append s.bytes (replicate (more * page_size) 0))
-grow_keeps k more s false h = h
-
-meaning_keeps : (m : NestedModule) (k : ℕ) (i : Instr) (numbers : List ℕ) (s : Store) → HasBytes k s → KeepsMeaning (HasBytes k) (meaning_of m i numbers s)
-unfolding meaning_of
-meaning_keeps m k (instr.Numeric op) (j ∷ i ∷ []) s h = numeric_keeps (HasBytes k) (binary op i j) s h
-meaning_keeps m k (instr.Globals op index) [] s h = h
-meaning_keeps m k (instr.Globals op index) (n ∷ []) s h = h
-meaning_keeps m k (instr.Access op align offset) (base ∷ []) s h = load_keeps (HasBytes k) op s (bytes_at s.bytes (base + offset) (access_bytes op)) h
-meaning_keeps m k (instr.Access op align offset) (n ∷ base ∷ []) s h = store_keeps k (base + offset) (bytes_of (access_bytes op) n) s (bytes_at s.bytes (base + offset) (access_bytes op)) h
-meaning_keeps m k instr.MemorySize [] s h = h
-meaning_keeps m k instr.MemorySize (n ∷ ns) s h = h
-meaning_keeps m k instr.MemoryGrow (more ∷ []) s h = grow_keeps k more s (nat_le (pages s + more) (greatest_pages m)) h
-meaning_keeps m k i numbers s h = h
 
 -- where the effect goes on at once, there are so many bytes
 abbrev Continued : ℕ → Effect ℕ → Type 0
@@ -100,7 +66,7 @@ module _ (k : ℕ) where
   plain_continued m i None ns s h = tt
   plain_continued m i (Some g) ns s h =
       split_continued (split_first (length g.takes) ns) (λ top below. after_meaning bare g.gives below (meaning_of m i (map (λ n. n) top) s))
-      (λ top below. meaning_continued g.gives below (meaning_of m i (map (λ n. n) top) s) (meaning_keeps m k i (map (λ n. n) top) s h))
+      (λ top below. meaning_continued g.gives below (meaning_of m i (map (λ n. n) top) s) (bytes_kept m k i (map (λ n. n) top) s h))
 
   selection_continued : (n : ℕ) (ns : List ℕ) (s : Store) → HasBytes k s → Continued k (selection bare n ns s)
   selection_continued n [] s h = tt

@@ -2,7 +2,7 @@
 use Rattle.std.proofs.Common.{◌≡◌, ℕ, zero, suc, ◌+◌, ◌-◌, ◌≤◌, List, [], ◌∷◌, ◌++◌, length, Option, Some, None, refl, sym, ap, ◌∙◌, subst, arith}
 use Rattle.std.proofs.lemmas.Bool.{leb-true}
 use Rattle.std.proofs.lemmas.List.Elements.{recursion_from_All}
-use Rattle.std.specs.Prelude.{Ok, cond, Bool, true, false, map, slice_get, option_map, option_and_then}
+use Rattle.std.specs.Prelude.{true, map, slice_get, option_map, option_and_then}
 use Rattle.std.specs.List.{AllByRecursion}
 use Rattle.wasm_types.specs.declared.module.FuncType.{FuncType}
 use Rattle.wasm_types.specs.declared.module.Func.{Func}
@@ -15,18 +15,17 @@ use Rattle.wasm_types.specs.declared.instr.Instr.TheVariants.{Block, Loop, If, E
 use Rattle.wasm_types.specs.Modules.{NestedFunc, NestedModule, HasPlainFuncs, flat_func, flat_module}
 use Rattle.wasm_types.specs.Back.{nested_module}
 use Rattle.wasm_types.proofs.Whole.{body_stands, module_back}
-use Rattle.module_specs.specs.Spelling.{SpellsEach}
 use Rattle.module_specs.specs.CodeSpelling.{SpellsCode, SpellsBody, most_nested}
 use Rattle.module_specs.specs.ModuleSpelling.{SpellsTable, SpellsMemory, SpellsSectionContent, SpellsSections, SpellsModule, Section, Custom, Types, Imports, Funcs, Tables, Memories, Globals, Exports, Start, Elements, Codes, Datas, Before, after, put, put_all, empty, most_entries, most_pages}
-use Rattle.code_specs.specs.declared.rule.Rule.{Rule}
+use Rattle.module_specs.proofs.SpellableParts.{each_fits}
 use Rattle.code_specs.specs.declared.rule.Rule.TheVariants as rule
 use Rattle.code_specs.specs.Instances.{first_failing}
-use Rattle.code_specs.specs.Validity.{fails_at, each, has_one_result, validity, IsValid}
-use Rattle.code_laws.proofs.Tests.{passed}
+use Rattle.code_specs.specs.Validity.{each, has_one_result, validity, IsValid}
+use Rattle.code_laws.proofs.Tests.{passed, some_is}
+use Rattle.code_laws.proofs.Parts.{none_fails, each_passes}
 use Rattle.code_specs.specs.Signatures.{Function, function_at, typed_function}
 use Rattle.machine_steps.specs.Nesting.{Nests}
 use Rattle.machine_steps.specs.Modules.{IsEncodable, IsReady, FuncFits, HasLimits}
-use Rattle.machine_steps.proofs.Splits.{some_is}
 use Rattle.machine_steps.proofs.States.{Matches, Same}
 
 -- ---- limits
@@ -39,10 +38,6 @@ nests (InLoop r inner rest) room around text e s = (omega (arith, e, s.3), nests
 nests (IfOnly r inner rest) room around text e s = (omega (arith, e, s.3), nests inner (room - 1) (suc around) s.0 (omega (arith, e, s.3)) s.4, nests rest room around s.1 e s.5)
 nests (IfElse r first second rest) room around text e s =
     (omega (arith, e, s.4), nests first (room - 1) (suc around) s.0 (omega (arith, e, s.4)) s.5, nests second (room - 1) (suc around) s.1 (omega (arith, e, s.4)) s.6, nests rest room around s.2 e s.7)
-
-each_has : {A : Type 0} (S : A → List ℕ → Type 0) (P : A → Type 0) → ((x : A) (text : List ℕ) → S x text → P x) → (xs : List A) (text : List ℕ) → SpellsEach S xs text → AllByRecursion P xs
-each_has S P f [] text s = tt
-each_has S P f (x ∷ xs) text s = (f x s.0 s.3, each_has S P f xs s.1 s.4)
 
 body_fits : (f : NestedFunc) (text : List ℕ) → SpellsBody f text → FuncFits f
 body_fits f text s =
@@ -69,13 +64,13 @@ module _ (m : NestedModule) (h : HasLimits m) where
   put_keeps s (Types types) text c = record { funcs = h.funcs; tables = h.tables; memories = h.memories }
   put_keeps s Imports text c = h
   put_keeps s (Funcs indices) text c = h
-  put_keeps s (Tables tables) text c = record { funcs = h.funcs; tables = each_has SpellsTable TableFits table_fits tables c.1 c.4; memories = h.memories }
-  put_keeps s (Memories memories) text c = record { funcs = h.funcs; tables = h.tables; memories = each_has SpellsMemory MemoryFits memory_fits memories c.1 c.4 }
+  put_keeps s (Tables tables) text c = record { funcs = h.funcs; tables = each_fits SpellsTable TableFits table_fits tables c.1 c.4; memories = h.memories }
+  put_keeps s (Memories memories) text c = record { funcs = h.funcs; tables = h.tables; memories = each_fits SpellsMemory MemoryFits memory_fits memories c.1 c.4 }
   put_keeps s (Globals globals) text c = record { funcs = h.funcs; tables = h.tables; memories = h.memories }
   put_keeps s (Exports exports) text c = record { funcs = h.funcs; tables = h.tables; memories = h.memories }
   put_keeps s (Start func) text c = record { funcs = h.funcs; tables = h.tables; memories = h.memories }
   put_keeps s (Elements elements) text c = record { funcs = h.funcs; tables = h.tables; memories = h.memories }
-  put_keeps s (Codes funcs) text c = record { funcs = each_has SpellsBody FuncFits body_fits funcs c.1.1 c.1.4; tables = h.tables; memories = h.memories }
+  put_keeps s (Codes funcs) text c = record { funcs = each_fits SpellsBody FuncFits body_fits funcs c.1.1 c.1.4; tables = h.tables; memories = h.memories }
   put_keeps s (Datas datas) text c = record { funcs = h.funcs; tables = h.tables; memories = h.memories }
 
 sections_keep : (xs : List Section) (s : Before) (m : NestedModule) (text : List ℕ) → HasLimits m → SpellsSections s xs text → HasLimits (put_all xs m)
@@ -148,23 +143,6 @@ pub nested_is : (fm : Module) (n : NestedModule) → fm ≡ flat_module n → Ha
 nested_is fm n flat plain = ap nested_module flat ∙ module_back n plain
 
 -- ---- small modules
-
-none_fails : (r : Rule) (o : Option ℕ) (u : Unit {0}) → fails_at r o ≡ Ok u → o ≡ None
-none_fails r None u is = refl
-none_fails r (Some place) u is = cc
-
-one_passes : {A : Type 0} (test : A → Bool) (place : ℕ) (y : A) (ys : List A) (b : Bool) → test y ≡ b
-    → first_failing test place (y ∷ ys) ≡ None → (test y ≡ true) × (first_failing test (place + 1) ys ≡ None)
-one_passes test place y ys true t is = (t, sym (ap (λ b. cond b (first_failing test (place + 1) ys) (Some place)) t) ∙ is)
-one_passes test place y ys false t is =
-    absurd (let wrong : Some place ≡ None = sym (ap (λ b. cond b (first_failing test (place + 1) ys) (Some place)) t) ∙ is in cc)
-
--- where no item fails each passes
-pub each_passes : {A : Type 0} (test : A → Bool) (place : ℕ) (xs : List A) → first_failing test place xs ≡ None
-    → (i : ℕ) (x : A) → slice_get xs i ≡ Some x → test x ≡ true
-each_passes test place [] is i x at = cc
-each_passes test place (y ∷ ys) is zero x at = ap test (sym (some_is y x at)) ∙ (one_passes test place y ys (test y) refl is).0
-each_passes test place (y ∷ ys) is (suc i) x at = each_passes test (place + 1) ys (one_passes test place y ys (test y) refl is).1 i x at
 
 few_results : (m : NestedModule) → IsValid m → (i : ℕ) (t : FuncType) → slice_get m.types i ≡ Some t → length t.results ≤ 1
 unfolding validity

@@ -3,9 +3,7 @@ use Rattle.std.proofs.Common.{◌≡◌, ℕ, zero, suc, List, [], ◌∷◌, �
 use Rattle.std.specs.Prelude.{cond}
 use Rattle.wasm_types.specs.declared.instr.ValType.{ValType}
 use Rattle.code_specs.specs.Values.{Value, Split, is_of, all_bits, with_top, split, split_first}
-
-pub some_is : {A : Type 0} (x y : A) → Some x ≡ Some y → x ≡ y
-some_is x y e = cc
+use Rattle.code_laws.proofs.Tests.{some_is}
 
 if_some : {A : Type 0} (b : Bool) (o : Option A) (x : A) → cond b o None ≡ Some x → o ≡ Some x
 if_some true o x e = e

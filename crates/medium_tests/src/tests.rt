@@ -5,11 +5,11 @@ ghost use Rattle.bus_specs.specs.Bus.{member_is};
 ghost use Rattle.bus_ops.specs.Views.{item_of};
 ghost use Rattle.medium_tests.specs.Runs.{at_first, behind_item, behind_cut, behind_request, behind_start, frame as frame_sent};
 
-use bus_log::{LineList, print_line};
 use bus_medium::{BusSetup, Medium};
 use bus_ops::{Item, Op};
 use can_frame::{Bytes, Frame, Kind, Numbers};
 use error_script::ErrorList;
+use log_lines::{LineList, print_line};
 use std::alloc::{AllocError, Global};
 use std::process::Abort;
 use std::test::Fail;

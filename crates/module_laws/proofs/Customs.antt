@@ -6,7 +6,8 @@ use Rattle.module_specs.specs.Fronts.{after_all}
 use Rattle.module_specs.specs.ModuleSpelling.{Section, Custom, Before, start, put, put_all, empty, module_of, declared, indices_after, SpellsSection, SpellsSections, SpellsRest, SpellsModule, magic, version, most_bytes}
 use Rattle.module_specs.proofs.Places.{here_first, here_second}
 use Rattle.module_laws.specs.Grammars.{IgnoresCustom}
-use Rattle.module_laws.proofs.Determined.{one_text, goes_on, whole_here, after_both, spelled_both}
+use Rattle.wasm_code.proofs.Whole.{whole_here}
+use Rattle.module_laws.proofs.Determined.{one_text, goes_on, after_both, spelled_both}
 
 -- ---- what sections make
 

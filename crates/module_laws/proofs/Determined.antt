@@ -1,5 +1,5 @@
 -- What stands at a place is determined: sections, and the module that a file spells.
-use Rattle.std.proofs.Common.{◌≡◌, ℕ, ◌+◌, ◌≤◌, List, [], ◌∷◌, ◌++◌, length, take, drop, Result, Ok, Err, refl, sym, ap, subst, ◌∙◌, arith, append-nil, append_assoc, length-append}
+use Rattle.std.proofs.Common.{◌≡◌, ℕ, ◌+◌, ◌≤◌, List, [], ◌∷◌, ◌++◌, length, take, drop, Result, Ok, Err, refl, sym, ap, subst, ◌∙◌, arith, append_assoc, length-append}
 use Rattle.std.proofs.lemmas.List.{take_at}
 use Rattle.wasm_types.specs.Modules.{NestedModule}
 use Rattle.module_specs.specs.declared.fault.Fault.{Fault}
@@ -9,7 +9,7 @@ use Rattle.module_specs.specs.ModuleSpelling.{Section, Before, start, after, Spe
 use Rattle.module_specs.proofs.Places.{ok_is, here_first, here_second, here_join, same_text}
 use Rattle.module_specs.proofs.Sections.{BodiesTell, section_again, sections_again}
 use Rattle.module_specs.proofs.Modules.{module_again}
-use Rattle.wasm_code.proofs.Whole.{body_again, body_here}
+use Rattle.wasm_code.proofs.Whole.{body_again, body_here, whole_here}
 
 pub tell : BodiesTell
 tell = record {
@@ -74,13 +74,6 @@ pub one_text : (b : List ℕ) (at end : ℕ) (t u : List ℕ) → Here b at t en
 one_text b at end t u ht hu =
     let size : length t ≡ length u = omega (arith, ht.size, hu.size) in
     sym (take_at t (drop end b) (length t) refl) ∙ ap (take (length t)) (sym ht.whole ∙ hu.whole) ∙ take_at u (drop end b) (length t) (sym size)
-
-nothing_left : (l : List ℕ) → drop (length l) l ≡ []
-nothing_left [] = refl
-nothing_left (x ∷ l) = nothing_left l
-
-pub whole_here : (text : List ℕ) → Here text 0 text (length text)
-whole_here text = record { whole = sym (ap (λ l. text ++ l) (nothing_left text) ∙ append-nil text); size = omega arith; within = omega arith }
 
 -- a text is one list of sections
 pub same_sections : (xs ys : List Section) (text : List ℕ) → SpellsSections start xs text → SpellsSections start ys text → xs ≡ ys

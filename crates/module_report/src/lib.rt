@@ -5,6 +5,3 @@ mod line;
 mod report;
 
 pub use report::{ReportError, module_report, read_checked};
-
-#[cfg(test)]
-mod tests;

@@ -2,7 +2,7 @@
 ghost use Rattle.std.specs.Prelude.{◌≡◌, ◌++◌, IfOk, OnOk, codes, decimal};
 ghost use Rattle.wasm_types.specs.Modules.{NestedModule, flat_module};
 ghost use Rattle.wasm_types.specs.Back.{nested_module};
-ghost use Rattle.wasm_writer.specs.Shortest.{IsSpelled};
+ghost use Rattle.module_specs.specs.Spelled.{IsSpelled};
 ghost use Rattle.module_report.specs.Line.{index_or_dash, module_line};
 
 use itoa::Buffer;
@@ -11,21 +11,21 @@ use wasm_types::Module;
 use wasm_writer::shortest_len;
 
 /// The line on a module, with its line feed.
-pub(crate) fn line_of(alloc: Global, module: &Module) -> Result<Vec<u8>, AllocError>
-    requires { IsSpelled «module».now }
-    ensures { IfOk result (λ line. line.items ≡ module_line (nested_module «module».now)) }
+pub(crate) fn line_of(alloc: Global, parts: &Module) -> Result<Vec<u8>, AllocError>
+    requires { IsSpelled parts.now }
+    ensures { IfOk result (λ line. line.items ≡ module_line (nested_module parts.now)) }
 {
     let mut line = Vec::new(alloc);
-    push_number(&mut line, b"types ", module.types.as_slice().len())?;
-    push_number(&mut line, b" funcs ", module.funcs.as_slice().len())?;
-    push_number(&mut line, b" tables ", module.tables.as_slice().len())?;
-    push_number(&mut line, b" memories ", module.memories.as_slice().len())?;
-    push_number(&mut line, b" globals ", module.globals.as_slice().len())?;
-    push_number(&mut line, b" exports ", module.exports.as_slice().len())?;
-    push_index(&mut line, b" start ", module.start)?;
-    push_number(&mut line, b" elems ", module.elements.as_slice().len())?;
-    push_number(&mut line, b" datas ", module.datas.as_slice().len())?;
-    push_number(&mut line, b" size ", shortest_len(module))?;
+    push_number(&mut line, b"types ", parts.types.as_slice().len())?;
+    push_number(&mut line, b" funcs ", parts.funcs.as_slice().len())?;
+    push_number(&mut line, b" tables ", parts.tables.as_slice().len())?;
+    push_number(&mut line, b" memories ", parts.memories.as_slice().len())?;
+    push_number(&mut line, b" globals ", parts.globals.as_slice().len())?;
+    push_number(&mut line, b" exports ", parts.exports.as_slice().len())?;
+    push_index(&mut line, b" start ", parts.start)?;
+    push_number(&mut line, b" elems ", parts.elements.as_slice().len())?;
+    push_number(&mut line, b" datas ", parts.datas.as_slice().len())?;
+    push_number(&mut line, b" size ", shortest_len(parts))?;
     line.push(b'\n')?;
     Ok(line)
 }

@@ -10,5 +10,4 @@ pub mod Items
 pub mod Segments
 pub mod Sections
 pub mod Modules
-pub mod FileFaults
 pub mod Cuts

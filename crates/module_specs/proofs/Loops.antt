@@ -4,13 +4,11 @@ use Rattle.std.proofs.lemmas.List.{append-nil}
 use Rattle.module_specs.specs.declared.fault.Fault.{Fault}
 use Rattle.module_specs.specs.declared.fault.Fault.TheVariants.{Memory}
 use Rattle.module_specs.specs.Reading.{Read, ◌>>=◌, Fails, each_at}
+use Rattle.module_specs.proofs.Readers.{cons_read}
 
 -- what was read before, and what is still read
 abbrev pub with_front : {A : Type 0} → List A → Read (List A) → Read (List A)
 with_front front read = read >>= λ x. Ok (front ++ x.0, x.1)
-
-abbrev cons_read : {A : Type 0} → A → List A × ℕ → Read (List A)
-cons_read x xs = Ok (x ∷ xs.0, xs.1)
 
 regroup : {A : Type 0} (front : List A) (x : A) (read : Read (List A)) → with_front front (read >>= cons_read x) ≡ with_front (front ++ x ∷ []) read
 regroup front x (Ok xs) = ap (λ l. Ok (l, xs.1)) (sym (append_assoc front (x ∷ []) xs.0))

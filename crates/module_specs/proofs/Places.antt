@@ -2,12 +2,13 @@
 use Rattle.std.proofs.Common.{not, eqb, ◌≡◌, ℕ, ◌+◌, ◌-◌, ◌<◌, ◌≤◌, ℤ, Bool, true, false, cond, List, [], ◌∷◌, ◌++◌, length, get_or, drop, Result, Ok, Err, refl, sym, ap, subst, ◌∙◌, arith, append_assoc, length-append}
 use Rattle.std.specs.Prelude.{nat_lt}
 use Rattle.std.proofs.lemmas.Bool.{lt-ltb, ltb-true, eqb-true}
-use Rattle.std.proofs.lemmas.List.{drop_at, drop-drop, drop_more, length-drop, get_or-drop}
+use Rattle.std.proofs.lemmas.List.{drop_at, drop-drop, drop_more, length-drop}
 use Rattle.leb_bytes.specs.declared.error.LebError.{LebError}
 use Rattle.leb_bytes.specs.declared.error.LebError.TheVariants as leb
 use Rattle.leb_bytes.specs.Spelling.{Begins, SpellsUnsigned, SpellsSigned, LastUnsigned, LastSigned, join_unsigned, join_signed}
 use Rattle.leb_bytes.specs.Reading.{unsigned_at, signed_at, last_unsigned, last_signed}
 use Rattle.leb_bytes.proofs.Spelled.{IsBytes, front, read_again}
+use Rattle.leb_bytes.proofs.Places.{IsBytes-drop}
 use Rattle.leb_bytes.proofs.LastBytes.{unsigned_reads, signed_reads}
 use Rattle.module_specs.specs.declared.fault.Fault.{Fault}
 use Rattle.module_specs.specs.declared.fault.Fault.TheVariants.{Short, Opcode}
@@ -36,9 +37,6 @@ goes_past t e f is = ap (λ t. refuse_if t e >>= f) is
 pub not_not : (t : Bool) → not t ≡ false → t ≡ true
 not_not true e = refl
 not_not false e = absurd cc
-
-IsBytes-drop : (n : ℕ) (bytes : List ℕ) → IsBytes bytes → IsBytes (drop n bytes)
-IsBytes-drop n bytes h i = rw get_or-drop (h (n + i))
 
 -- ---- texts
 

@@ -69,7 +69,7 @@ constant_text c f = let v = value_text c.ty c refl f in (v.0 ++ 0x0B ∷ [], (v.
 
 -- ---- modules
 
-each_fits : {A : Type 0} (S : A → List ℕ → Type 0) (P : A → Type 0) → ((x : A) (text : List ℕ) → S x text → P x) → (xs : List A) (text : List ℕ) → SpellsEach S xs text → AllByRecursion P xs
+pub each_fits : {A : Type 0} (S : A → List ℕ → Type 0) (P : A → Type 0) → ((x : A) (text : List ℕ) → S x text → P x) → (xs : List A) (text : List ℕ) → SpellsEach S xs text → AllByRecursion P xs
 each_fits S P f [] text s = tt
 each_fits S P f (x ∷ xs) text s = (f x s.0 s.3, each_fits S P f xs s.1 s.4)
 

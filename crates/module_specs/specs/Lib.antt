@@ -3,6 +3,7 @@ pub mod Opcodes
 pub mod Spelling
 pub mod CodeSpelling
 pub mod ModuleSpelling
+pub mod Spelled
 pub mod Reading
 pub mod CodeReading
 pub mod ModuleReading

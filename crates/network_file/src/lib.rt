@@ -16,6 +16,3 @@ pub use error::NetworkFileError;
 pub use network_specs::NetworkField;
 pub use parts::{Attachment, Bus, NetworkFile, Node, Rate, ScriptEntry, Settings};
 pub use reading::read_network_file;
-
-#[cfg(test)]
-mod tests;

@@ -1,4 +1,3 @@
-pub mod Rows
 pub mod SameFiles
 pub mod OneMoreKey
 pub mod AlikeFolders

@@ -1,21 +1,9 @@
 -- One more key that isn't read.
-use Rattle.std.proofs.Common.{◌≡◌, ℕ, false, List, Option, Some, refl, codes, inl}
-use Rattle.std.specs.declared.cmp.Ordering.{Ordering}
-use Rattle.std.specs.declared.cmp.Ordering.TheVariants.{Less, Equal, Greater}
-use Rattle.std.specs.Ordering.{nat_cmp, is_eq, match_ordering}
-use Rattle.std.specs.Cmp.Lexicographic.{slice_cmp}
-use Rattle.toml.specs.Data.{Data, Members, member, get_member, same_key}
+use Rattle.std.proofs.Common.{◌≡◌, ℕ, false, List, codes, inl}
+use Rattle.toml.specs.Data.{Data, Members, member, same_key}
+use Rattle.description_laws.proofs.OneMoreKey.{skipped}
 use Rattle.description_laws.proofs.Steps.{either_false}
 use Rattle.network_laws.specs.Keys.{TellTheSame, is_read}
-
-skipped_at : (o : Ordering) (a : Option Data) (d : Data) → is_eq o ≡ false → match_ordering o a (Some d) a ≡ a
-skipped_at Less a d h = refl
-skipped_at Equal a d h = absurd (cc)
-skipped_at Greater a d h = refl
-
--- another key has what it had
-skipped : (k key : List ℕ) (d : Data) (t : Members) → same_key k key ≡ false → get_member k (member key d t) ≡ get_member k t
-skipped k key d t h = skipped_at (slice_cmp nat_cmp k key) (get_member k t) d h
 
 pub one_more : (key : List ℕ) (d : Data) (t : Members) → is_read key ≡ false → TellTheSame (member key d t) t
 one_more key d t h =
@@ -27,7 +15,13 @@ one_more key d t h =
     let nodes = either_false (same_key (codes "node") key) _ buses.1 in
     let errors = either_false (same_key (codes "error") key) _ nodes.1 in
     record {
-      top = (skipped (codes "resolution") key d t resolution.0, (skipped (codes "stop") key d t stop.0, (skipped (codes "events") key d t events.0, (skipped (codes "fuel") key d t fuel.0, tt))));
+      top = (
+        skipped (codes "resolution") key d t resolution.0,
+        (
+          skipped (codes "stop") key d t stop.0,
+          (skipped (codes "events") key d t events.0, (skipped (codes "fuel") key d t fuel.0, tt)),
+        ),
+      );
       buses = inl (skipped (codes "bus") key d t buses.0);
       nodes = inl (skipped (codes "node") key d t nodes.0);
       errors = inl (skipped (codes "error") key d t errors.0);

@@ -1,22 +1,21 @@
 -- The plan of an accepted network is well formed.
-use Rattle.std.proofs.Common.{◌≡◌, ℕ, zero, suc, ◌+◌, ◌<◌, ◌≤◌, ◌==◌, ◌||◌, Bool, true, false, List, [], ◌∷◌, ◌++◌, length, All, Option, Some, None, Result, Ok, Err, IfSome, refl, sym, ap, subst, ◌∙◌, append-nil, append_assoc, arith}
-use Rattle.std.specs.Prelude.{option_map, if◌then◌else◌, map, filter, slice_get, sum_by, ⊤}
+use Rattle.std.proofs.Common.{◌≡◌, ℕ, zero, suc, ◌+◌, ◌==◌, ◌||◌, Bool, true, false, List, [], ◌∷◌, ◌++◌, length, All, Option, Some, None, Result, Ok, Err, IfSome, refl, sym, ap, subst, ◌∙◌, append-nil, append_assoc, arith}
+use Rattle.std.specs.Prelude.{option_map, if◌then◌else◌, map, filter, slice_get, ⊤}
 use Rattle.std.specs.List.{AllByRecursion}
 use Rattle.std.proofs.lemmas.Bool.Decides.{nat_tests}
-use Rattle.std.proofs.lemmas.List.Sums.{sum_by-cons}
 use Rattle.std.proofs.lemmas.List.Elements.{All-nil, All-cons}
 use Rattle.unit_specs.specs.Description.{Description}
 use Rattle.document_specs.specs.Checks.{each}
 use Rattle.description_specs.specs.Descriptions.{description_of}
 use Rattle.bus_specs.specs.Bus.{among}
-use Rattle.world_specs.specs.Plan.{IsDataBitTime, IsEntry, IsBusPlan, IsNodePlan, IsPlan, AllFrom, NodePlan, BusPlan, Plan, naming_from}
+use Rattle.world_specs.specs.Plan.{IsDataBitTime, IsEntry, IsBusPlan, IsNodePlan, IsPlan, AllFrom, NodePlan, Plan, naming_from}
 use Rattle.network_specs.specs.declared.field.NetworkField.TheVariants.{NodeBus}
 use Rattle.network_specs.specs.Settings.{refusal}
 use Rattle.network_specs.specs.Buses.{Rate, Bus}
 use Rattle.network_specs.specs.Nodes.{Node, stands_on}
 use Rattle.network_specs.specs.Scripts.{ScriptEntry}
 use Rattle.network_specs.specs.NetworkFiles.{NetworkFile, network_file_of}
-use Rattle.network_specs.specs.Plans.{attached_buses, entries_on, setup_of, bus_plans_from, plan_of}
+use Rattle.network_specs.specs.Plans.{attached_buses, entries_on, bus_plans_from, plan_of}
 use Rattle.network_specs.specs.Judging.{refused_as}
 use Rattle.network_specs.specs.Networks.{Main, DescriptionOf, ModuleOf, InNetworkFile, InDescription, InModule, Folder, NodeParts, Network, read, network_file_name, description_name, module_name, node_plan_of, network_of_parts, node_parts_at, node_parts_of, network_of}
 use Rattle.description_laws.proofs.Steps.{needs_ok, bind_ok}
@@ -80,58 +79,6 @@ entries_planned buses nodes members place h (e ∷ es) all = by_test (e.bus == p
         → All (IsEntry members) (map (λ (x : ScriptEntry). x.entry) (if b then e ∷ filter (λ (x : ScriptEntry). x.bus == place) es else filter (λ (x : ScriptEntry). x.bus == place) es))
     by_test true is rest = All-cons (IsEntry members) e.entry (entries_on place es) (entry_planned buses nodes members place h e (same_number e.bus place is) all.0) rest
     by_test false is rest = rest
-
--- how many entries the buses from a place on have
-abbrev counted : ℕ → List ScriptEntry → List NodePlan → List Bus → ℕ
-counted place es nodes bs = sum_by (λ (b : BusPlan). length b.setup.errors) (bus_plans_from place es nodes bs)
-
-abbrev on_bus : ℕ → List ScriptEntry → ℕ
-on_bus place es = length (entries_on place es)
-
-one_on : (e : ScriptEntry) (es : List ScriptEntry) (place : ℕ) → (e.bus == place) ≡ true → on_bus place (e ∷ es) ≡ suc (on_bus place es)
-one_on e es place h = rw h refl
-
-none_on : (e : ScriptEntry) (es : List ScriptEntry) (place : ℕ) → (e.bus == place) ≡ false → on_bus place (e ∷ es) ≡ on_bus place es
-none_on e es place h = rw h refl
-
-other : (n k : ℕ) → n < k → (n == k) ≡ false
-other n k h = grind (arith, nat_tests)
-
-step : (es : List ScriptEntry) (nodes : List NodePlan) (place : ℕ) (b : Bus) (bs : List Bus) → counted place es nodes (b ∷ bs) ≡ on_bus place es + counted (place + 1) es nodes bs
-step es nodes place b bs = sum_by-cons (λ (p : BusPlan). length p.setup.errors) (record { setup = setup_of es place b; members = naming_from 0 nodes place }) (bus_plans_from (place + 1) es nodes bs)
-
-behind_it : (e : ScriptEntry) (es : List ScriptEntry) (nodes : List NodePlan) (place : ℕ) (bs : List Bus) → e.bus < place → counted place (e ∷ es) nodes bs ≡ counted place es nodes bs
-behind_it e es nodes place [] h = refl
-behind_it e es nodes place (b ∷ bs) h =
-    let here = none_on e es place (other e.bus place h) in
-    let more = behind_it e es nodes (place + 1) bs (omega (arith, h)) in
-    omega (arith, here, more, step (e ∷ es) nodes place b bs, step es nodes place b bs)
-
-one_more : (e : ScriptEntry) (es : List ScriptEntry) (nodes : List NodePlan) (place : ℕ) (bs : List Bus) → counted place (e ∷ es) nodes bs ≤ counted place es nodes bs + 1
-one_more e es nodes place [] = omega arith
-one_more e es nodes place (b ∷ bs) = by_test (e.bus == place) refl (one_more e es nodes (place + 1) bs)
-  where
-    by_test : (t : Bool) → (e.bus == place) ≡ t → counted (place + 1) (e ∷ es) nodes bs ≤ counted (place + 1) es nodes bs + 1 → counted place (e ∷ es) nodes (b ∷ bs) ≤ counted place es nodes (b ∷ bs) + 1
-    by_test true is more =
-        let here = one_on e es place is in
-        let same = same_number e.bus place is in
-        let rest = behind_it e es nodes (place + 1) bs (omega (arith, same)) in
-        omega (arith, here, rest, step (e ∷ es) nodes place b bs, step es nodes place b bs)
-    by_test false is more = let here = none_on e es place is in omega (arith, here, more, step (e ∷ es) nodes place b bs, step es nodes place b bs)
-
-no_entries : (nodes : List NodePlan) (place : ℕ) (bs : List Bus) → counted place [] nodes bs ≡ 0
-no_entries nodes place [] = refl
-no_entries nodes place (b ∷ bs) =
-    let more = no_entries nodes (place + 1) bs in
-    let none : on_bus place [] ≡ 0 = refl in
-    omega (arith, more, none, step [] nodes place b bs)
-
-few_entries : (es : List ScriptEntry) (nodes : List NodePlan) (bs : List Bus) → counted 0 es nodes bs ≤ length es
-few_entries [] nodes bs = let k = no_entries nodes 0 bs in omega (arith, k)
-few_entries (e ∷ es) nodes bs =
-    let here = one_more e es nodes 0 bs in
-    let more = few_entries es nodes bs in
-    omega (arith, here, more)
 
 -- ---- the buses
 
@@ -231,7 +178,6 @@ module _ {Code Why : Type 0} (judge : Description → List ℕ → Result Code W
       let nodes = map node_plan_of ps in
       let many = as_many file.nodes ps k in
       let buses = bus_count 0 file.script nodes file.buses in
-      let errors = few_entries file.script nodes file.buses in
       record {
         resolution = r.resolution;
         stop = r.stop;
@@ -239,7 +185,6 @@ module _ {Code Why : Type 0} (judge : Description → List ℕ → Result Code W
         fuel = r.fuel;
         some_buses = (omega (arith, r.some_buses.0, buses), omega (arith, r.some_buses.1, buses));
         some_nodes = (omega (arith, r.some_nodes.0, many), omega (arith, r.some_nodes.1, many));
-        few_errors = omega (arith, errors, r.few_errors);
         buses = buses_planned (plan_of file nodes) 0 (length file.buses) file.nodes file.script (member (length file.buses) file.nodes ps k r.nodes) r.errors file.buses r.buses;
         nodes = subst (λ n. All (IsNodePlan n) nodes) (sym buses) (all_planned (length file.buses) file.nodes ps k r.nodes);
       }

@@ -11,7 +11,7 @@ use Rattle.network_specs.specs.Plans.{attached_buses}
 use Rattle.network_specs.specs.Judging.{refused_as}
 use Rattle.network_specs.specs.Networks.{File, Main, DescriptionOf, ModuleOf, InNetworkFile, InDescription, Folder, read, network_file_name, description_name, module_name, network_of_parts, node_parts_at, node_parts_of, network_of}
 use Rattle.network_laws.specs.Folders.{HoldTheSame}
-use Rattle.network_laws.proofs.Rows.{bind_same}
+use Rattle.description_laws.proofs.Rows.{bind_same}
 
 read_same : {Why : Type 0} (net name one_file other_file : List ℕ) (one other : Folder) (file : File) → HoldTheSame net name one other → one.held one_file ≡ other.held other_file
     → read {Why = Why} one file one_file ≡ read other file other_file

@@ -4,6 +4,3 @@
 mod field;
 
 pub use field::NetworkField;
-
-#[cfg(test)]
-mod tests;

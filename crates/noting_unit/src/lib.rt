@@ -9,6 +9,3 @@ mod sessions;
 pub use exchanges::{Exchange, Exchanges};
 pub use noting::{NotedState, NotingUnit};
 pub use sessions::{noted_close, noted_session};
-
-#[cfg(test)]
-mod tests;

@@ -6,6 +6,3 @@ mod numbers;
 
 pub use cutting::{cut, find, parts};
 pub use numbers::number_in;
-
-#[cfg(test)]
-mod tests;

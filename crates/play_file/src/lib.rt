@@ -20,6 +20,3 @@ pub use laws::{
 };
 pub use play::Play;
 pub use reading::read_play;
-
-#[cfg(test)]
-mod tests;

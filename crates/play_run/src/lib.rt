@@ -7,8 +7,6 @@ mod play;
 mod playing;
 mod runner;
 mod script;
-#[cfg(test)]
-mod tests;
 
 pub use emission::Emission;
 pub use play::run;

@@ -1,14 +1,14 @@
 //! A moment at which nodes take their notices, or actions are carried out.
 ghost use Rattle.std.specs.Prelude.{◌≡◌, ◌≤◌, ◌^◌, ◌++◌, [], true, All, IfNone, IfOk, IfSome, OnOk, map, option_to_list};
 ghost use Rattle.bus_specs.specs.Bus.{member_is};
-ghost use Rattle.bus_log.specs.Lines.{line_of};
+ghost use Rattle.log_lines.specs.Lines.{line_of};
 ghost use Rattle.play_run.specs.Moments.{taken_by, carried_out, moment_of};
 ghost use Rattle.play_run.specs.Prefixes.{at_moment, behind_moment};
 ghost use Rattle.play_run.specs.Ready.{Takes};
 
 use crate::Emission;
-use bus_log::{Line, LineList};
 use bus_medium::Medium;
+use log_lines::{Line, LineList};
 use std::alloc::{AllocError, Global};
 use std::collections::VecDeque;
 

@@ -1,13 +1,12 @@
 //! The run of a play of a file.
-ghost use Rattle.std.specs.Prelude.{◌≡◌, ◌≤◌, ◌<◌, ◌^◌, IfOk, OnOk, IsErrOf, map, length};
+ghost use Rattle.std.specs.Prelude.{◌≡◌, ◌<◌, ◌^◌, IfOk, map, length};
 ghost use Rattle.std.specs.List.{range_with_len};
 ghost use Rattle.log_specs.specs.Line.{line_text};
 ghost use Rattle.play_specs.specs.Play as model;
 ghost use Rattle.bus_ops.specs.Views.{item_of};
 ghost use Rattle.play_file.specs.Verbs.{verb_of};
-ghost use Rattle.bench_outside.specs.Causes.{Rose};
-ghost use Rattle.bench_outside.specs.Pieces.{WritesAll, BreaksOff, StopsBefore};
 ghost use Rattle.log_writing.specs.Endings.{code_of};
+ghost use Rattle.log_writing.specs.Written.{WritesOrBreaksOff};
 ghost use Rattle.play_run.specs.Scripts.{scenario_of, IsRunnable};
 
 use crate::Emission;
@@ -105,17 +104,8 @@ fn script_of(alloc: Global, play: Play) -> Result<Script, AllocError>
 pub fn run<O: Sink>(alloc: Global, budget: u64, play: Play, out: &mut O) -> Result<Ending, RunError>
     requires few { length play.actions < 2 ^ 63 }
     requires budget { budget < 2 ^ 62 }
-    ensures log { OnOk result
-        (WritesAll O.Sink out.old out.new (map line_text (model.play_lines budget play))) }
+    ensures written { WritesOrBreaksOff O.Sink out.old out.new (map line_text (model.play_lines budget play)) result }
     ensures ending { IfOk result (λ e. code_of e ≡ model.play_status budget play) }
-    ensures part { IsErrOf result RunError.Unwritten
-        → BreaksOff O.Sink out.old out.new (map line_text (model.play_lines budget play)) }
-    ensures stopped { IsErrOf result RunError.Memory
-        → StopsBefore O.Sink out.old out.new (map line_text (model.play_lines budget play)) }
-    ensures unwritten { IsErrOf result RunError.Unwritten → Rose (O.faults out.old) (O.faults out.new) }
-    ensures memory { IsErrOf result RunError.Memory → O.faults out.new ≡ O.faults out.old }
-    ensures kept { OnOk result (O.faults out.new ≡ O.faults out.old) }
-    ensures later { O.faults out.old ≤ O.faults out.new }
 {
     let script = script_of(alloc, play)?;
     run_script(alloc, budget, script, out)

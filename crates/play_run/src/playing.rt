@@ -1,5 +1,5 @@
 //! The run of a play over its whole length.
-ghost use Rattle.std.specs.Prelude.{◌≡◌, ◌≤◌, ◌<◌, ◌+◌, ◌^◌, ◌∷◌, [], true, All, fold, map, IfOk, OnOk, IsErrOf};
+ghost use Rattle.std.specs.Prelude.{◌≡◌, ◌≤◌, ◌<◌, ◌+◌, ◌^◌, true, All, fold, map, IfOk};
 ghost use Rattle.std.specs.List.{range_with_len};
 ghost use Rattle.bus_specs.specs.Bus.{member_is, new_bus};
 ghost use Rattle.bus_specs.specs.Inbox.{enter};
@@ -9,9 +9,8 @@ ghost use Rattle.run_specs.specs.Run.{log as log_of};
 ghost use Rattle.play_specs.specs.Scenario.{machine, scenario_lines, scenario_status};
 ghost use Rattle.play_run.specs.Scripts.{scenario_of, IsRunnable};
 ghost use Rattle.play_run.specs.Statuses.{status_from};
-ghost use Rattle.bench_outside.specs.Causes.{Rose};
-ghost use Rattle.bench_outside.specs.Pieces.{WritesAll, BreaksOff, StopsBefore};
 ghost use Rattle.log_writing.specs.Endings.{code_of};
+ghost use Rattle.log_writing.specs.Written.{WritesOrBreaksOff};
 ghost use Rattle.play_run.specs.Ready.{IsReady};
 ghost use Rattle.play_run.specs.Worlds.{world_of};
 
@@ -33,17 +32,9 @@ fn run_on<O: Sink>(
     requires ready { IsReady (world_of runner) }
     requires stop { stop ≤ 2 ^ 62 }
     requires budget { (world_of runner).events + budget < 2 ^ 62 }
-    ensures log { OnOk result
-        (WritesAll O.Sink out.old out.new (map line_text (log_of (machine stop) budget (world_of runner)))) }
+    ensures written { WritesOrBreaksOff O.Sink out.old out.new
+        (map line_text (log_of (machine stop) budget (world_of runner))) result }
     ensures ending { IfOk result (λ e. code_of e ≡ status_from stop budget (world_of runner)) }
-    ensures part { IsErrOf result RunError.Unwritten
-        → BreaksOff O.Sink out.old out.new (map line_text (log_of (machine stop) budget (world_of runner))) }
-    ensures stopped { IsErrOf result RunError.Memory
-        → StopsBefore O.Sink out.old out.new (map line_text (log_of (machine stop) budget (world_of runner))) }
-    ensures unwritten { IsErrOf result RunError.Unwritten → Rose (O.faults out.old) (O.faults out.new) }
-    ensures memory { IsErrOf result RunError.Memory → O.faults out.new ≡ O.faults out.old }
-    ensures kept { OnOk result (O.faults out.new ≡ O.faults out.old) }
-    ensures later { O.faults out.old ≤ O.faults out.new }
 {
     let mut left = budget;
     while let Some(event) = runner.next_event(stop) {
@@ -90,17 +81,9 @@ pub(crate) fn run_script<O: Sink>(
 ) -> Result<Ending, RunError>
     requires runnable { IsRunnable script }
     requires budget { budget < 2 ^ 62 }
-    ensures log { OnOk result
-        (WritesAll O.Sink out.old out.new (map line_text (scenario_lines budget (scenario_of script)))) }
+    ensures written { WritesOrBreaksOff O.Sink out.old out.new
+        (map line_text (scenario_lines budget (scenario_of script))) result }
     ensures ending { IfOk result (λ e. code_of e ≡ scenario_status budget (scenario_of script)) }
-    ensures part { IsErrOf result RunError.Unwritten
-        → BreaksOff O.Sink out.old out.new (map line_text (scenario_lines budget (scenario_of script))) }
-    ensures stopped { IsErrOf result RunError.Memory
-        → StopsBefore O.Sink out.old out.new (map line_text (scenario_lines budget (scenario_of script))) }
-    ensures unwritten { IsErrOf result RunError.Unwritten → Rose (O.faults out.old) (O.faults out.new) }
-    ensures memory { IsErrOf result RunError.Memory → O.faults out.new ≡ O.faults out.old }
-    ensures kept { OnOk result (O.faults out.new ≡ O.faults out.old) }
-    ensures later { O.faults out.old ≤ O.faults out.new }
 {
     let stop = script.stop;
     let medium = live_bus(alloc, script.setup, script.nodes)?;

@@ -9,8 +9,8 @@ ghost use Rattle.play_run.specs.Worlds.{world_of};
 
 use crate::Emission;
 use crate::moment::moment_lines;
-use bus_log::LineList;
 use bus_medium::{Due, Medium, What};
+use log_lines::LineList;
 use std::alloc::{AllocError, Global};
 use std::collections::VecDeque;
 

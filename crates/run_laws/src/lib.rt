@@ -2,9 +2,6 @@
 //! empty body.
 #![tactic(auto)]
 
-#[cfg(test)]
-mod tests;
-
 ghost use Rattle.std.specs.Prelude.{◌≡◌, ℕ, ◌+◌, ◌++◌};
 ghost use Rattle.run_specs.specs.Run.{Machine, behind, head, log};
 

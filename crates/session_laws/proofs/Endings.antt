@@ -1,72 +1,26 @@
 -- A session is over only where an update asked for the end, and live only where none did.
-use Rattle.std.proofs.Common.{◌≡◌, ◌+◌, ℕ, zero, suc, Bool, true, false, List, [], None, Some, Result, Ok, Err, IfOk, refl, sym, ap, subst, ◌∙◌, arith}
+use Rattle.std.proofs.Common.{◌≡◌, ◌+◌, ℕ, zero, suc, Bool, true, false, List, [], Result, Ok, Err, IfOk, refl, sym, ap, subst, ◌∙◌, arith}
 use Rattle.fmi_states.specs.declared.call.Call.{Call}
 use Rattle.fmi_states.specs.declared.call.Call.TheVariants as call
 use Rattle.fmi_states.specs.declared.reply.Reply.{Reply}
-use Rattle.fmi_states.specs.declared.reply.Reply.TheVariants as reply
-use Rattle.fmi_states.specs.declared.status.FmiStatus.{FmiStatus}
-use Rattle.fmi_states.specs.declared.status.FmiStatus.TheVariants as status
 use Rattle.unit_specs.specs.Description.{Description, Terminal}
 use Rattle.log_specs.specs.Line.{Cause}
 use Rattle.session_specs.specs.Outcome.{SessionIn, SessionOut, Emission, End, Live, Over}
 use Rattle.session_specs.specs.Sequence.{continue_with, in_order}
-use Rattle.session_specs.specs.Replies.{fault_of, status_fault, Wish, AnotherUpdate, NoUpdate, TheEnd, wish_of}
+use Rattle.session_specs.specs.Replies.{Wish, AnotherUpdate, NoUpdate, TheEnd}
 use Rattle.session_specs.specs.Session.{effect_of, entry_calls, input_calls, Iteration, iteration_of, Transmitted, next_iteration, iterations, interval_call, termination_calls, exit_calls, all_calls, outcome_of}
 use Rattle.session_specs.specs.Exchanges.{Exchange, Noted, noted_at, noting}
-use Rattle.session_laws.specs.Laws.{one_if, count_of, ends_by}
-use Rattle.session_laws.proofs.Counting.{is_update, Weighs, weigh, weigh_nothing, Counts, Quiet, quiet_begun, quiet_given, turned_counts, quiet_finished}
+use Rattle.session_laws.specs.Laws.{one_if, says_end, count_of, ends_by}
+use Rattle.session_laws.proofs.Counting.{Weighs, weigh, weigh_nothing, Counts, Quiet, quiet_begun, quiet_given, turned_counts, quiet_finished}
+use Rattle.session_laws.proofs.Wishes.{weight_of, weighs_by}
 use Rattle.session_laws.proofs.Changes.{continues, anyhow}
 
 -- how many wishes for the end stand in a wish
 abbrev end_wishes : Wish → ℕ
-end_wishes AnotherUpdate = 0
-end_wishes NoUpdate = 0
-end_wishes TheEnd = 1
-
-updated_wishes : (s : FmiStatus) (more end : Bool) → status_fault s ≡ None
-    → one_if (ends_by call.Update (reply.Updated s more end)) ≡ end_wishes (wish_of (reply.Updated s more end))
-updated_wishes status.Ok true true h = refl
-updated_wishes status.Ok true false h = refl
-updated_wishes status.Ok false true h = refl
-updated_wishes status.Ok false false h = refl
-updated_wishes status.Warning true true h = refl
-updated_wishes status.Warning true false h = refl
-updated_wishes status.Warning false true h = refl
-updated_wishes status.Warning false false h = refl
-updated_wishes status.Discard more end h = cc
-updated_wishes status.Error more end h = cc
-updated_wishes status.Fatal more end h = cc
-
-reply_wishes : (r : Reply) → fault_of r ≡ None → one_if (ends_by call.Update r) ≡ end_wishes (wish_of r)
-reply_wishes (reply.Plain s) h = refl
-reply_wishes (reply.Clock s ticks) h = refl
-reply_wishes (reply.Data s bytes) h = refl
-reply_wishes (reply.Updated s more end) h = updated_wishes s more end h
-reply_wishes (reply.Interval s counter resolution qualifier) h = refl
-reply_wishes (reply.Broken b) h = refl
-
-updated_faulty : (s : FmiStatus) (more end : Bool) (why : Cause) → status_fault s ≡ Some why
-    → ends_by call.Update (reply.Updated s more end) ≡ false
-updated_faulty status.Ok more end why h = absurd cc
-updated_faulty status.Warning more end why h = absurd cc
-updated_faulty status.Discard more end why h = refl
-updated_faulty status.Error more end why h = refl
-updated_faulty status.Fatal more end why h = refl
-
-reply_faulty : (r : Reply) (why : Cause) → fault_of r ≡ Some why → ends_by call.Update r ≡ false
-reply_faulty (reply.Plain s) why h = refl
-reply_faulty (reply.Clock s ticks) why h = refl
-reply_faulty (reply.Data s bytes) why h = refl
-reply_faulty (reply.Updated s more end) why h = updated_faulty s more end why h
-reply_faulty (reply.Interval s counter resolution qualifier) why h = refl
-reply_faulty (reply.Broken b) why h = refl
-
-not_update : (c : Call) → is_update c ≡ false → (r : Reply) → ends_by c r ≡ false
-not_update call.Update h r = absurd cc
-not_update other h r = refl
+end_wishes = weight_of says_end
 
 weighs : Weighs ends_by end_wishes
-weighs = record { updates = not_update; refused = reply_faulty; fine = reply_wishes }
+weighs = weighs_by says_end refl refl
 
 abbrev is_over : End → Bool
 is_over Over = true

@@ -2,6 +2,7 @@ pub mod Freed
 pub mod Went
 pub mod Pieces
 pub mod Counting
+pub mod Wishes
 pub mod Repeats
 pub mod Sublists
 pub mod Endings

@@ -1,71 +1,24 @@
 -- How many updates ask for another one, and that a unit is down for Loop exactly where 16 do.
-use Rattle.std.proofs.Common.{◌≡◌, ◌<◌, ◌≤◌, ◌+◌, ℕ, zero, suc, Bool, true, false, List, [], None, Some, Result, Ok, Err, refl, arith}
+use Rattle.std.proofs.Common.{◌≡◌, ◌<◌, ◌≤◌, ◌+◌, ℕ, zero, suc, Bool, List, [], Result, Ok, Err, refl, arith}
 use Rattle.fmi_states.specs.declared.call.Call.{Call}
-use Rattle.fmi_states.specs.declared.call.Call.TheVariants as call
 use Rattle.fmi_states.specs.declared.reply.Reply.{Reply}
-use Rattle.fmi_states.specs.declared.reply.Reply.TheVariants as reply
-use Rattle.fmi_states.specs.declared.status.FmiStatus.{FmiStatus}
-use Rattle.fmi_states.specs.declared.status.FmiStatus.TheVariants as status
 use Rattle.unit_specs.specs.Description.{Description, Terminal}
 use Rattle.log_specs.specs.Line.{Cause, Loop}
 use Rattle.session_specs.specs.Outcome.{SessionIn, Emission}
 use Rattle.session_specs.specs.Sequence.{continue_with}
-use Rattle.session_specs.specs.Replies.{fault_of, status_fault, Wish, AnotherUpdate, NoUpdate, TheEnd, wish_of}
+use Rattle.session_specs.specs.Replies.{Wish, AnotherUpdate, NoUpdate, TheEnd}
 use Rattle.session_specs.specs.Session.{entry_calls, input_calls, Iteration, iteration_of, Transmitted, next_iteration, iterations, all_calls}
 use Rattle.session_specs.specs.Exchanges.{Exchange, Noted, noted_at, noting}
-use Rattle.session_laws.specs.Laws.{one_if, asks_by, again_of}
-use Rattle.session_laws.proofs.Counting.{is_update, Weighs, weigh, weigh_nothing, Counts, Quiet, quiet_begun, quiet_given, turned_counts, quiet_finished}
+use Rattle.session_laws.specs.Laws.{says_again, asks_by, again_of}
+use Rattle.session_laws.proofs.Counting.{Weighs, weigh, weigh_nothing, Counts, Quiet, quiet_begun, quiet_given, turned_counts, quiet_finished}
+use Rattle.session_laws.proofs.Wishes.{weight_of, weighs_by}
 
 -- how many wishes for another update stand in a wish
 abbrev wishes : Wish → ℕ
-wishes AnotherUpdate = 1
-wishes NoUpdate = 0
-wishes TheEnd = 0
-
-updated_wishes : (s : FmiStatus) (more end : Bool) → status_fault s ≡ None
-    → one_if (asks_by call.Update (reply.Updated s more end)) ≡ wishes (wish_of (reply.Updated s more end))
-updated_wishes status.Ok true true h = refl
-updated_wishes status.Ok true false h = refl
-updated_wishes status.Ok false true h = refl
-updated_wishes status.Ok false false h = refl
-updated_wishes status.Warning true true h = refl
-updated_wishes status.Warning true false h = refl
-updated_wishes status.Warning false true h = refl
-updated_wishes status.Warning false false h = refl
-updated_wishes status.Discard more end h = cc
-updated_wishes status.Error more end h = cc
-updated_wishes status.Fatal more end h = cc
-
-reply_wishes : (r : Reply) → fault_of r ≡ None → one_if (asks_by call.Update r) ≡ wishes (wish_of r)
-reply_wishes (reply.Plain s) h = refl
-reply_wishes (reply.Clock s ticks) h = refl
-reply_wishes (reply.Data s bytes) h = refl
-reply_wishes (reply.Updated s more end) h = updated_wishes s more end h
-reply_wishes (reply.Interval s counter resolution qualifier) h = refl
-reply_wishes (reply.Broken b) h = refl
-
-updated_faulty : (s : FmiStatus) (more end : Bool) (why : Cause) → status_fault s ≡ Some why
-    → asks_by call.Update (reply.Updated s more end) ≡ false
-updated_faulty status.Ok more end why h = absurd cc
-updated_faulty status.Warning more end why h = absurd cc
-updated_faulty status.Discard more end why h = refl
-updated_faulty status.Error more end why h = refl
-updated_faulty status.Fatal more end why h = refl
-
-reply_faulty : (r : Reply) (why : Cause) → fault_of r ≡ Some why → asks_by call.Update r ≡ false
-reply_faulty (reply.Plain s) why h = refl
-reply_faulty (reply.Clock s ticks) why h = refl
-reply_faulty (reply.Data s bytes) why h = refl
-reply_faulty (reply.Updated s more end) why h = updated_faulty s more end why h
-reply_faulty (reply.Interval s counter resolution qualifier) why h = refl
-reply_faulty (reply.Broken b) why h = refl
-
-not_update : (c : Call) → is_update c ≡ false → (r : Reply) → asks_by c r ≡ false
-not_update call.Update h r = absurd cc
-not_update other h r = refl
+wishes = weight_of says_again
 
 weighs : Weighs asks_by wishes
-weighs = record { updates = not_update; refused = reply_faulty; fine = reply_wishes }
+weighs = weighs_by says_again refl refl
 
 module _ {S : Type 0} (answer : S → Call → Reply × S) where
   -- down for Loop exactly where n updates ask for another one, and no more do

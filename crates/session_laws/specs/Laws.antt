@@ -12,17 +12,26 @@ use Rattle.session_specs.specs.Exchanges.{Exchange}
 
 -- ---- updates
 
--- an update that isn't refused, and asks for another one and not for the end
-abbrev pub asks_by : Call → Reply → Bool
-asks_by call.Update (reply.Updated status.Ok true false) = true
-asks_by call.Update (reply.Updated status.Warning true false) = true
-asks_by c r = false
+-- an update that isn't refused, by what it says of another one and of the end
+abbrev pub update_by : (says : Bool → Bool → Bool) → Call → Reply → Bool
+update_by says call.Update (reply.Updated status.Ok another_update end) = says another_update end
+update_by says call.Update (reply.Updated status.Warning another_update end) = says another_update end
+update_by says c r = false
 
--- an update that isn't refused and asks for the end, whatever it says of another one
+-- it asks for another one and not for the end
+abbrev pub says_again : Bool → Bool → Bool
+says_again true false = true
+says_again another_update end = false
+
+-- it asks for the end, whatever it says of another one
+abbrev pub says_end : Bool → Bool → Bool
+says_end another_update end = end
+
+abbrev pub asks_by : Call → Reply → Bool
+asks_by = update_by says_again
+
 abbrev pub ends_by : Call → Reply → Bool
-ends_by call.Update (reply.Updated status.Ok another_update true) = true
-ends_by call.Update (reply.Updated status.Warning another_update true) = true
-ends_by c r = false
+ends_by = update_by says_end
 
 abbrev pub one_if : Bool → ℕ
 one_if b = if b then 1 else 0

@@ -3,8 +3,6 @@
 
 mod bit_time;
 mod scaling;
-#[cfg(test)]
-mod tests;
 
 pub use bit_time::BitTime;
 pub use scaling::scale;

@@ -174,7 +174,7 @@ module _ (b : List ℕ) where
       let s = x.2 in
       (x.0, x.1, s.4.0, (s.0, s.1, s.2, s.3, s.4.1))
 
-whole_here : (text : List ℕ) → Here text 0 text (length text)
+pub whole_here : (text : List ℕ) → Here text 0 text (length text)
 whole_here text = record { whole = sym (ap (λ l. text ++ l) (nothing_left text) ∙ append-nil text); size = omega arith; within = omega arith }
   where
     nothing_left : (l : List ℕ) → drop (length l) l ≡ []

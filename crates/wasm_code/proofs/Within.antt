@@ -1,7 +1,6 @@
 -- Bodies lie in their region, and so do their faults.
-use Rattle.std.proofs.Common.{◌≡◌, ℕ, zero, suc, ◌-◌, ◌≤◌, Bool, true, false, cond, List, [], ◌∷◌, ◌++◌, length, replicate, Ok, Err, subst, arith}
+use Rattle.std.proofs.Common.{◌≡◌, ℕ, zero, suc, ◌-◌, ◌≤◌, Bool, true, false, cond, List, [], ◌∷◌, length, Ok, Err, subst, arith}
 use Rattle.std.specs.Prelude.{nat_lt}
-use Rattle.wasm_types.specs.declared.instr.ValType.{ValType}
 use Rattle.wasm_types.specs.declared.instr.ValType.TheVariants.{I32, I64}
 use Rattle.wasm_types.specs.declared.instr.Instr.TheVariants as instr
 use Rattle.wasm_types.specs.Nested.{Code, Nil, Leaf}
@@ -20,6 +19,7 @@ use Rattle.module_specs.specs.CodeReading.{immediates_at, token_at, Part, First,
 use Rattle.module_specs.proofs.Within.{Allows, Fine, Stays, earlier, then, unless, byte_stays, u32_stays, s32_stays, s64_stays, zero_then, type_stays, block_type_stays, vector_stays, sized_fine}
 use Rattle.wasm_code.specs.Faults.{IsOfCode, HasError, InBody}
 use Rattle.wasm_code.specs.Flat.{flat_read}
+use Rattle.wasm_code.proofs.Runs.{before_run}
 
 allows : Allows InBody
 allows = record {
@@ -106,9 +106,6 @@ module _ (b : List ℕ) where
         (λ t more to. act_lies (code_from fuel b) (code_lies fuel) place t.1 more to within t.0 os list)
 
   module _ (body at : ℕ) (behind : body ≤ at) where
-    abbrev before_run : ℕ → ValType → List ValType × ℕ → Read (List ValType)
-    before_run count type rest = Ok (replicate count type ++ rest.0, rest.1)
-
     runs_lie : (n room place : ℕ) → at ≤ place → place ≤ length b → Lies b at (runs_at body b room n place)
     unfolding runs_at
     runs_lie zero room place le within = (le, within)

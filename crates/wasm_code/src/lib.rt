@@ -11,6 +11,3 @@ pub use body::{read_body, read_function};
 pub use error::CodeError;
 pub use items::{byte, long_signed, number, signed, value_type};
 pub use laws::{a_body_spells_one_function, faults_lie_in_their_section};
-
-#[cfg(test)]
-mod tests;

@@ -158,9 +158,3 @@ left_in_bits a (Returned vs s f) e = ap fuel_left e
 left_in_bits a (Trapped kind s f) e = ap fuel_left e
 left_in_bits a (Spent s) e = ap fuel_left e
 left_in_bits a Stuck e = ap fuel_left e
-
-pub never_goes : (r : Answer Value) → Stuck ≡ bits_of_answer r → r ≡ Stuck
-never_goes (Returned vs s f) e = cc
-never_goes (Trapped kind s f) e = cc
-never_goes (Spent s) e = cc
-never_goes Stuck e = refl

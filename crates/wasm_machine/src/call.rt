@@ -19,22 +19,22 @@ use wasm_validate::Checked;
 pub(crate) fn run(
     alloc: Global,
     stack: &mut Stack,
-    module: &Module,
+    parts: &Module,
     instance: &mut Instance,
     pool: &mut Pool,
     func: u32,
     arguments: &[u64],
     fuel: &mut u64,
 ) -> Result<Turn, AllocError>
-    requires checked { IsChecked module.now }
-    requires stands { Stands module.now pool.old instance.old }
-    requires fits { Fits module.now func arguments.now }
-    ensures answer { IfOk result (λ t. answer_at t (store_in pool.new instance.new) fuel.new ≡ bits_of_answer (meant module.now func arguments.now (store_in pool.old instance.old) fuel.old)) }
-    ensures never { meant module.now func arguments.now (store_in pool.old instance.old) fuel.old ≢ Stuck }
-    ensures leaves { Leaves module.now pool.old pool.new instance.old instance.new }
-    ensures room { IsUnshared pool.old instance.old.memory.table → KeepsSize (length (bytes_in pool.old instance.old.memory)) (meant module.now func arguments.now (store_in pool.old instance.old) fuel.old) → IsOk result }
+    requires checked { IsChecked parts.now }
+    requires stands { Stands parts.now pool.old instance.old }
+    requires fits { Fits parts.now func arguments.now }
+    ensures answer { IfOk result (λ t. answer_at t (store_in pool.new instance.new) fuel.new ≡ bits_of_answer (meant parts.now func arguments.now (store_in pool.old instance.old) fuel.old)) }
+    ensures never { meant parts.now func arguments.now (store_in pool.old instance.old) fuel.old ≢ Stuck }
+    ensures leaves { Leaves parts.now pool.old pool.new instance.old instance.new }
+    ensures room { IsUnshared pool.old instance.old.memory.table → KeepsSize (length (bytes_in pool.old instance.old.memory)) (meant parts.now func arguments.now (store_in pool.old instance.old) fuel.old) → IsOk result }
 {
-    let locals = func_at(module, func).locals.as_slice().len();
+    let locals = func_at(parts, func).locals.as_slice().len();
     stack.func = func;
     stack.position = 0;
     stack.base = 0;
@@ -45,7 +45,7 @@ pub(crate) fn run(
     push_all(&mut stack.values, arguments);
     push_zeros(&mut stack.values, locals);
     loop {
-        match stack.step(alloc, module, instance, pool, fuel)? {
+        match stack.step(alloc, parts, instance, pool, fuel)? {
             Turn::Go => {}
             end => return Ok(end),
         }

@@ -55,20 +55,20 @@ pub enum Turn {
 
 /// A function of a module.
 #[inline(always)]
-pub(crate) fn func_at(module: &Module, index: u32) -> &Func
-    requires { slice_get module.now.funcs index ≢ None }
-    ensures { slice_get module.now.funcs index ≡ Some result.now }
+pub(crate) fn func_at(parts: &Module, index: u32) -> &Func
+    requires { slice_get parts.now.funcs index ≢ None }
+    ensures { slice_get parts.now.funcs index ≡ Some result.now }
 {
-    &module.funcs.as_slice()[index as usize]
+    &parts.funcs.as_slice()[index as usize]
 }
 
 /// A function type of a module.
 #[inline(always)]
-pub(crate) fn type_at(module: &Module, index: u32) -> &FuncType
-    requires { slice_get module.now.types index ≢ None }
-    ensures { slice_get module.now.types index ≡ Some result.now }
+pub(crate) fn type_at(parts: &Module, index: u32) -> &FuncType
+    requires { slice_get parts.now.types index ≢ None }
+    ensures { slice_get parts.now.types index ≡ Some result.now }
 {
-    &module.types.as_slice()[index as usize]
+    &parts.types.as_slice()[index as usize]
 }
 
 /// The instruction at a position.
@@ -237,13 +237,13 @@ impl Stack {
 
     /// The function returns.
     #[inline(always)]
-    pub(crate) fn leave(&mut self, module: &Module) -> Turn
-        requires fine { (s : Store) × (fuel : ℕ) × (returning_in module.now self.old s fuel ≢ Stop Stuck) }
+    pub(crate) fn leave(&mut self, parts: &Module) -> Turn
+        requires fine { (s : Store) × (fuel : ℕ) × (returning_in parts.now self.old s fuel ≢ Stop Stuck) }
         requires room { HasRoom self.old.depth self.old.values self.old.labels self.old.callers }
-        requires ready { IsReady module.now }
-        ensures { (s : Store) (fuel : ℕ) → returning_in module.now self.old s fuel ≡ seen result self.new s fuel }
+        requires ready { IsReady parts.now }
+        ensures { (s : Store) (fuel : ℕ) → returning_in parts.now self.old s fuel ≡ seen result self.new s fuel }
     {
-        let ty = type_at(module, func_at(module, self.func).ty);
+        let ty = type_at(parts, func_at(parts, self.func).ty);
         let value = take_result(&mut self.values, ty);
         if self.callers.len() == 0 {
             return Turn::Returned(value);
@@ -261,15 +261,15 @@ impl Stack {
 
     /// A branch.
     #[inline(always)]
-    pub(crate) fn branch(&mut self, module: &Module, label: u32) -> Turn
-        requires fine { (s : Store) × (fuel : ℕ) × (branching_in module.now label self.old s fuel ≢ Stop Stuck) }
+    pub(crate) fn branch(&mut self, parts: &Module, label: u32) -> Turn
+        requires fine { (s : Store) × (fuel : ℕ) × (branching_in parts.now label self.old s fuel ≢ Stop Stuck) }
         requires room { HasRoom self.old.depth self.old.values self.old.labels self.old.callers }
-        requires ready { IsReady module.now }
-        ensures { (s : Store) (fuel : ℕ) → branching_in module.now label self.old s fuel ≡ seen result self.new s fuel }
+        requires ready { IsReady parts.now }
+        ensures { (s : Store) (fuel : ℕ) → branching_in parts.now label self.old s fuel ≡ seen result self.new s fuel }
     {
         let inside = label as usize;
         if inside >= self.depth {
-            return self.leave(module);
+            return self.leave(parts);
         }
         let label = label_from_top(&self.labels, inside);
         let value = take_carried(&mut self.values, label.carries);
@@ -284,14 +284,14 @@ impl Stack {
 
     /// A list ends, and this position comes next.
     #[inline(always)]
-    pub(crate) fn close(&mut self, module: &Module, position: usize) -> Turn
-        requires fine { (s : Store) × (fuel : ℕ) × (closing_in module.now position self.old s fuel ≢ Stop Stuck) }
+    pub(crate) fn close(&mut self, parts: &Module, position: usize) -> Turn
+        requires fine { (s : Store) × (fuel : ℕ) × (closing_in parts.now position self.old s fuel ≢ Stop Stuck) }
         requires room { HasRoom self.old.depth self.old.values self.old.labels self.old.callers }
-        requires ready { IsReady module.now }
-        ensures { (s : Store) (fuel : ℕ) → closing_in module.now position self.old s fuel ≡ seen result self.new s fuel }
+        requires ready { IsReady parts.now }
+        ensures { (s : Store) (fuel : ℕ) → closing_in parts.now position self.old s fuel ≡ seen result self.new s fuel }
     {
         if self.depth == 0 {
-            return self.leave(module);
+            return self.leave(parts);
         }
         drop_labels(&mut self.labels, 1);
         self.position = position;
@@ -313,18 +313,18 @@ impl Stack {
     }
 
     /// A call.
-    pub(crate) fn call(&mut self, module: &Module, index: u32) -> Turn
-        requires fine { (s : Store) × (fuel : ℕ) × (calling_in module.now index self.old s fuel ≢ Stop Stuck) }
+    pub(crate) fn call(&mut self, parts: &Module, index: u32) -> Turn
+        requires fine { (s : Store) × (fuel : ℕ) × (calling_in parts.now index self.old s fuel ≢ Stop Stuck) }
         requires position { self.old.position + 1 < 2 ^ 64 }
         requires room { HasRoom self.old.depth self.old.values self.old.labels self.old.callers }
-        requires ready { IsReady module.now }
-        ensures { (s : Store) (fuel : ℕ) → calling_in module.now index self.old s fuel ≡ seen result self.new s fuel }
+        requires ready { IsReady parts.now }
+        ensures { (s : Store) (fuel : ℕ) → calling_in parts.now index self.old s fuel ≡ seen result self.new s fuel }
     {
         if self.callers.len() >= 255 {
             return Turn::Trapped(TrapKind::Depth);
         }
-        let func = func_at(module, index);
-        let params = type_at(module, func.ty).params.as_slice().len();
+        let func = func_at(parts, index);
+        let params = type_at(parts, func.ty).params.as_slice().len();
         let base = self.values.len() - params;
         push_zeros(&mut self.values, func.locals.as_slice().len());
         self.callers.push(Frame {

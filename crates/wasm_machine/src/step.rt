@@ -125,22 +125,22 @@ impl Stack {
 
     // call_indirect, at this entry of the table.
     #[inline(always)]
-    fn call_entry(&mut self, module: &Module, entry: Option<Option<u32>>, ty: u32) -> Turn
-        requires fine { (s : Store) × (fuel : ℕ) × (entry_in module.now entry ty self.old s fuel ≢ Stop Stuck) }
+    fn call_entry(&mut self, parts: &Module, entry: Option<Option<u32>>, ty: u32) -> Turn
+        requires fine { (s : Store) × (fuel : ℕ) × (entry_in parts.now entry ty self.old s fuel ≢ Stop Stuck) }
         requires position { self.old.position + 1 < 2 ^ 64 }
         requires room { HasRoom self.old.depth self.old.values self.old.labels self.old.callers }
-        requires ready { IsReady module.now }
-        ensures { (s : Store) (fuel : ℕ) → entry_in module.now entry ty self.old s fuel ≡ seen result self.new s fuel }
+        requires ready { IsReady parts.now }
+        ensures { (s : Store) (fuel : ℕ) → entry_in parts.now entry ty self.old s fuel ≡ seen result self.new s fuel }
     {
         match entry {
             None => Turn::Trapped(TrapKind::Table),
             Some(None) => Turn::Trapped(TrapKind::Null),
             Some(Some(index)) => {
-                let Some(has) = function_type(module, index) else {
+                let Some(has) = function_type(parts, index) else {
                     unreachable!()
                 };
-                if is_same_type(type_at(module, ty), has) {
-                    self.call(module, index)
+                if is_same_type(type_at(parts, ty), has) {
+                    self.call(parts, index)
                 } else {
                     Turn::Trapped(TrapKind::Signature)
                 }
@@ -154,21 +154,21 @@ impl Stack {
     fn execute(
         &mut self,
         alloc: Global,
-        module: &Module,
+        parts: &Module,
         instance: &mut Instance,
         pool: &mut Pool,
         instr: &Instr,
     ) -> Result<Turn, AllocError>
-        requires fine { (fuel : ℕ) × (executing_in module.now instr.now self.old (store_in pool.old instance.old) fuel ≢ Stop Stuck) }
+        requires fine { (fuel : ℕ) × (executing_in parts.now instr.now self.old (store_in pool.old instance.old) fuel ≢ Stop Stuck) }
         requires takes { TakesUnit instr.now }
         requires encodable { IsEncodable instr.now }
         requires position { self.old.position + 1 < 2 ^ 64 }
         requires room { HasRoom self.old.depth self.old.values self.old.labels self.old.callers }
-        requires ready { IsReady module.now }
-        requires stands { Stands module.now pool.old instance.old }
-        ensures step { (fuel : ℕ) → IfOk result (λ t. executing_in module.now instr.now self.old (store_in pool.old instance.old) fuel ≡ seen t self.new (store_in pool.new instance.new) fuel) }
-        ensures leaves { Leaves module.now pool.old pool.new instance.old instance.new }
-        ensures larger { IsUnshared pool.old instance.old.memory.table → (fuel : ℕ) → OnErr result (LargerStep (length (bytes_in pool.old instance.old.memory)) (executing_in module.now instr.now self.old (store_in pool.old instance.old) fuel)) }
+        requires ready { IsReady parts.now }
+        requires stands { Stands parts.now pool.old instance.old }
+        ensures step { (fuel : ℕ) → IfOk result (λ t. executing_in parts.now instr.now self.old (store_in pool.old instance.old) fuel ≡ seen t self.new (store_in pool.new instance.new) fuel) }
+        ensures leaves { Leaves parts.now pool.old pool.new instance.old instance.new }
+        ensures larger { IsUnshared pool.old instance.old.memory.table → (fuel : ℕ) → OnErr result (LargerStep (length (bytes_in pool.old instance.old.memory)) (executing_in parts.now instr.now self.old (store_in pool.old instance.old) fuel)) }
     {
         match instr {
             Instr::Block { result, end } => {
@@ -184,16 +184,16 @@ impl Stack {
                 };
                 Ok(self.enter(self.position + 1, label))
             }
-            Instr::Br(label) => Ok(self.branch(module, *label)),
+            Instr::Br(label) => Ok(self.branch(parts, *label)),
             Instr::BrIf(label) => {
                 if pop(&mut self.values) != 0 {
-                    return Ok(self.branch(module, *label));
+                    return Ok(self.branch(parts, *label));
                 }
                 self.position += 1;
                 Ok(Turn::Go)
             }
-            Instr::Return => Ok(self.leave(module)),
-            Instr::Call(index) => Ok(self.call(module, *index)),
+            Instr::Return => Ok(self.leave(parts)),
+            Instr::Call(index) => Ok(self.call(parts, *index)),
             Instr::Drop => {
                 let _dropped = pop(&mut self.values);
                 self.position += 1;
@@ -208,11 +208,11 @@ impl Stack {
             Instr::BrTable { labels, default } => {
                 let index = pop(&mut self.values);
                 let label = picked(labels.as_slice(), index, *default);
-                Ok(self.branch(module, label))
+                Ok(self.branch(parts, label))
             }
             Instr::CallIndirect(ty) => {
                 let index = pop(&mut self.values);
-                Ok(self.call_entry(module, entry_at(&instance.table, index), *ty))
+                Ok(self.call_entry(parts, entry_at(&instance.table, index), *ty))
             }
             Instr::Select => {
                 select(&mut self.values);
@@ -223,7 +223,7 @@ impl Stack {
                 self.local(*op, *index);
                 Ok(Turn::Go)
             }
-            _ => match plain(alloc, &mut self.values, module, instance, pool, instr)? {
+            _ => match plain(alloc, &mut self.values, parts, instance, pool, instr)? {
                 None => {
                     self.position += 1;
                     Ok(Turn::Go)
@@ -239,29 +239,29 @@ impl Stack {
     pub(crate) fn step(
         &mut self,
         alloc: Global,
-        module: &Module,
+        parts: &Module,
         instance: &mut Instance,
         pool: &mut Pool,
         fuel: &mut u64,
     ) -> Result<Turn, AllocError>
-        requires fine { step_in module.now self.old (store_in pool.old instance.old) fuel.old ≢ Stop Stuck }
+        requires fine { step_in parts.now self.old (store_in pool.old instance.old) fuel.old ≢ Stop Stuck }
         requires room { HasRoom self.old.depth self.old.values self.old.labels self.old.callers }
-        requires ready { IsReady module.now }
-        requires stands { Stands module.now pool.old instance.old }
-        ensures step { IfOk result (λ t. step_in module.now self.old (store_in pool.old instance.old) fuel.old ≡ seen t self.new (store_in pool.new instance.new) fuel.new) }
-        ensures leaves { Leaves module.now pool.old pool.new instance.old instance.new }
-        ensures larger { IsUnshared pool.old instance.old.memory.table → OnErr result (LargerStep (length (bytes_in pool.old instance.old.memory)) (step_in module.now self.old (store_in pool.old instance.old) fuel.old)) }
+        requires ready { IsReady parts.now }
+        requires stands { Stands parts.now pool.old instance.old }
+        ensures step { IfOk result (λ t. step_in parts.now self.old (store_in pool.old instance.old) fuel.old ≡ seen t self.new (store_in pool.new instance.new) fuel.new) }
+        ensures leaves { Leaves parts.now pool.old pool.new instance.old instance.new }
+        ensures larger { IsUnshared pool.old instance.old.memory.table → OnErr result (LargerStep (length (bytes_in pool.old instance.old.memory)) (step_in parts.now self.old (store_in pool.old instance.old) fuel.old)) }
     {
-        let instr = instr_at(func_at(module, self.func), self.position);
+        let instr = instr_at(func_at(parts, self.func), self.position);
         match instr {
-            Instr::End => return Ok(self.close(module, self.position + 1)),
-            Instr::Else { end } => return Ok(self.close(module, *end as usize + 1)),
+            Instr::End => return Ok(self.close(parts, self.position + 1)),
+            Instr::Else { end } => return Ok(self.close(parts, *end as usize + 1)),
             _ => {}
         }
         if *fuel == 0 {
             return Ok(Turn::Spent);
         }
         *fuel -= 1;
-        self.execute(alloc, module, instance, pool, instr)
+        self.execute(alloc, parts, instance, pool, instr)
     }
 }

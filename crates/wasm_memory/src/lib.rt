@@ -8,6 +8,3 @@ mod words;
 
 pub use memory::Memory;
 pub use pool::Pool;
-
-#[cfg(test)]
-mod tests;

@@ -11,6 +11,3 @@ mod types;
 
 pub use error::ReadError;
 pub use module::read_module;
-
-#[cfg(test)]
-mod tests;

@@ -4,7 +4,8 @@ ghost use Rattle.wasm_types.specs.Back.{nested_module};
 ghost use Rattle.code_specs.specs.declared.rule.Rule.{Rule};
 ghost use Rattle.code_specs.specs.Validity.{IsValid, validity};
 ghost use Rattle.wasm_validate.specs.Found.{Finds, kinds_verdict, uses_verdict};
-ghost use Rattle.wasm_validate.specs.Valid.{IsSpelled, IsChecked};
+ghost use Rattle.module_specs.specs.Spelled.{IsSpelled};
+ghost use Rattle.wasm_validate.specs.Valid.{IsChecked};
 
 use crate::bodies::check_bodies;
 use crate::exports::failing_export;
@@ -21,7 +22,7 @@ use wasm_types::Module;
 /// A valid module. Contracts see the module.
 #[derive(Drop)]
 pub struct Checked {
-    module: Module,
+    parts: Module,
 }
 
 impl Model for Checked {
@@ -30,9 +31,9 @@ impl Model for Checked {
 
     ghost Value = { Module };
 
-    ghost view = { λ c. c.module };
+    ghost view = { λ c. c.parts };
 
-    ghost invariant = { λ c. IsChecked c.module };
+    ghost invariant = { λ c. IsChecked c.parts };
 }
 
 impl Checked {
@@ -41,7 +42,7 @@ impl Checked {
         ensures same { result.now ≡ self.now }
         ensures checked { IsChecked self.now }
     {
-        &self.module
+        &self.parts
     }
 }
 
@@ -83,20 +84,20 @@ fn check(alloc: Global, parts: &Module) -> Result<(), Invalid>
 
 /// Looks at the rules of validity in their order (WebAssembly Core 1.0, section 3): the module, if none fails, else the
 /// first that fails.
-pub fn validate(alloc: Global, module: Module) -> Result<Checked, Invalid>
+pub fn validate(alloc: Global, parts: Module) -> Result<Checked, Invalid>
     // The module is as `wasm_reader` reads it from bytes.
-    requires { IsSpelled «module» }
+    requires { IsSpelled parts }
     // It comes back unchanged, and no rule fails.
-    ensures valid { IfOk result (λ checked. (checked ≡ «module») × IsValid (nested_module «module»)) }
+    ensures valid { IfOk result (λ checked. (checked ≡ parts) × IsValid (nested_module parts)) }
     // Else the first rule that fails, with its place and its instruction.
     ensures refused { (rule : Rule) (place at : ℕ) → result ≡ Err (Invalid.Rule rule place at)
-        → validity (nested_module «module») ≡ Err (record { rule = rule; place = place; at = at }) }
+        → validity (nested_module parts) ≡ Err (record { rule = rule; place = place; at = at }) }
     // Types, functions, tables, memories and globals are looked at without memory: where a rule of theirs fails, it is named.
-    ensures kinds { (rule : Rule) (place at : ℕ) → kinds_verdict (nested_module «module») ≡ Err (record { rule = rule; place = place; at = at })
+    ensures kinds { (rule : Rule) (place at : ℕ) → kinds_verdict (nested_module parts) ≡ Err (record { rule = rule; place = place; at = at })
         → result ≡ Err (Invalid.Rule rule place at) }
 {
-    match check(alloc, &module) {
-        Ok(()) => Ok(Checked { module }),
+    match check(alloc, &parts) {
+        Ok(()) => Ok(Checked { parts }),
         Err(invalid) => Err(invalid),
     }
 }

@@ -23,7 +23,7 @@ use Rattle.wasm_writer.specs.Texts.{each_text, sized_text}
 use Rattle.wasm_writer.specs.CodeTexts.{instr_text, code_text, expr_text, locals_text, body_text}
 use Rattle.wasm_writer.specs.ModuleTexts.{func_type_text, table_text, memory_text, global_text, export_text, element_text, data_text, section_text, items_text, start_text, module_text}
 use Rattle.wasm_writer.specs.FlatTexts.{index_text, flat_body_text, flat_sections_text, flat_module_text}
-use Rattle.wasm_writer.specs.Shortest.{IsSpelled}
+use Rattle.module_specs.specs.Spelled.{IsSpelled}
 use Rattle.wasm_writer.proofs.LeastModule.{spelled_of, module_least}
 
 -- ---- code

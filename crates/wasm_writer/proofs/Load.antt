@@ -11,7 +11,7 @@ use Rattle.module_specs.specs.Reading.{byte_at, u32_at, s32_at, s64_at, zero_at,
 use Rattle.module_specs.specs.CodeReading.{token_at, code_from, runs_at, locals_at, content_at, body_at}
 use Rattle.module_specs.specs.ModuleReading.{func_type_at, limits_at, table_at, constant_at, global_at, export_at, offset_at, element_at, data_at, imports_at, custom_at, bodies_at, codes_at, section_at, sections_at, rest_at, module_read}
 use Rattle.module_specs.proofs.Modules.{module_here}
-use Rattle.wasm_writer.specs.Shortest.{IsSpelled}
+use Rattle.module_specs.specs.Spelled.{IsSpelled}
 use Rattle.wasm_writer.specs.Worked.{load_module, load_bytes}
 use Rattle.wasm_writer.proofs.Bodies.{tell}
 

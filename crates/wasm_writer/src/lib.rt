@@ -14,6 +14,3 @@ mod writing;
 pub use builder::ModuleBuilder;
 pub use laws::{no_spelling_is_shorter, written_modules_are_read_back};
 pub use writing::{shortest_len, write_module};
-
-#[cfg(test)]
-mod tests;

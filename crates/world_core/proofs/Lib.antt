@@ -13,6 +13,7 @@ pub mod Walking
 pub mod Settling
 pub mod ClockSteps
 pub mod Placing
+pub mod Placed
 pub mod Entries
 pub mod Holding
 pub mod Calls

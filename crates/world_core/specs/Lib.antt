@@ -16,5 +16,6 @@ pub mod Called
 pub mod Held
 pub mod Sits
 pub mod Left
+pub mod Happened
 pub mod Walked
 pub mod Closing

@@ -1,6 +1,6 @@
 //! The close of the nodes of a network.
 ghost use Rattle.std.specs.Prelude.{◌≡◌, ◌<◌, ◌≤◌, ◌++◌, All, IfOk, OnOk, length, map, option_map, slice_get, Some};
-ghost use Rattle.bus_log.specs.Lines.{line_of};
+ghost use Rattle.log_lines.specs.Lines.{line_of};
 ghost use Rattle.bus_specs.specs.Bus.{Bus};
 ghost use Rattle.ecu_session.specs.Words.{end_of};
 ghost use Rattle.world_specs.specs.Network.{close_lines, node_closed};
@@ -18,10 +18,10 @@ use crate::course::Course;
 use crate::standing::Standing;
 use crate::turns::leave_all;
 use crate::units::close_at;
-use bus_log::{Line, LineList};
 use bus_medium::Medium;
 use ecu_session::End;
 use fmi_states::Ecu;
+use log_lines::{Line, LineList};
 use std::alloc::{AllocError, Global};
 
 /// Whether a node is live.

@@ -7,8 +7,8 @@ ghost use Rattle.world_specs.specs.Plan.{IsPlan};
 ghost use Rattle.world_core.specs.OnBuses.{AreNumbered, IsDueOn, buses_with, lines_with};
 
 use crate::course::Course;
-use bus_log::LineList;
 use bus_medium::Medium;
+use log_lines::LineList;
 use std::alloc::{AllocError, Global};
 
 fn finish_on(

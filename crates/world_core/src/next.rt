@@ -92,8 +92,8 @@ fn first_due(buses: &[Medium], now: u64) -> Option<Event>
     event
 }
 
-/// Whether something waits for a node.
-fn waits(buses: &[Medium], now: u64, node: u32) -> bool
+/// Whether mail or a due notice waits for a node.
+pub(crate) fn waits(buses: &[Medium], now: u64, node: u32) -> bool
     ensures { result ≡ first.waits buses.now now node }
 {
     buses.iter().any(|bus| bus.has_inbox(now, node))

@@ -1,14 +1,14 @@
 //! The sessions of one moment: who takes part, and what each session is given.
 ghost use Rattle.std.specs.Prelude.{◌≡◌, ◌<◌, ◌≤◌, ◌+◌, ◌*◌, ◌^◌, ◌||◌, All, IfOk, drop, length, map, nat_lt};
-ghost use Rattle.std.specs.List.{list_any};
-ghost use Rattle.bus_specs.specs.Inbox as model;
 ghost use Rattle.world_specs.specs.Sessions.{inbox_on};
 ghost use Rattle.ecu_session.specs.Words.{end_of};
 ghost use Rattle.world_core.specs.Called.{call_of as called, input_at};
+ghost use Rattle.world_core.specs.First.{waits as waits_of};
 ghost use Rattle.world_core.specs.OnBuses.{AreNumbered};
 ghost use Rattle.world_core.specs.Settled as behind;
 
 use crate::clocks::{clear_all, settle, ticked};
+use crate::next::waits;
 use crate::plan::NodePlan;
 use crate::standing::Standing;
 use bus_medium::Medium;
@@ -24,13 +24,6 @@ pub(crate) struct Call {
     pub(crate) is_new: bool,
     /// What its session is given.
     pub(crate) input: SessionIn,
-}
-
-/// Whether mail or a due notice is there for a node.
-fn has_inbox(buses: &[Medium], now: u64, node: u32) -> bool
-    ensures { result ≡ list_any (λ b. model.has_inbox b now node) buses.now }
-{
-    buses.iter().any(|medium| medium.has_inbox(now, node))
 }
 
 /// What waits for a node on each bus that it names.
@@ -80,9 +73,9 @@ fn input_of(
 
 /// Whether a live node takes part: clocks of it tick, or mail or a due notice is there.
 fn is_called(buses: &[Medium], ticked: &[u32], now: u64, node: u32) -> bool
-    ensures { result ≡ (nat_lt 0 (length ticked.now) || list_any (λ b. model.has_inbox b now node) buses.now) }
+    ensures { result ≡ (nat_lt 0 (length ticked.now) || waits_of buses.now now node) }
 {
-    !ticked.is_empty() || has_inbox(buses, now, node)
+    !ticked.is_empty() || waits(buses, now, node)
 }
 
 /// The call of a node, where it takes part.

@@ -2,7 +2,7 @@
 ghost use Rattle.std.specs.Prelude.{◌≡◌, ◌≤◌, ◌<◌, ◌^◌, ◌++◌, All, IfOk, OnOk, length, map, slice_get};
 ghost use Rattle.bus_specs.specs.Bus.{is};
 ghost use Rattle.bus_specs.specs.Inbox.{enter, leave, take_inbox};
-ghost use Rattle.bus_log.specs.Lines.{line_of};
+ghost use Rattle.log_lines.specs.Lines.{line_of};
 ghost use Rattle.bus_ops.specs.Views.{items_of};
 ghost use Rattle.world_specs.specs.Plan.{IsPlan};
 ghost use Rattle.world_specs.specs.Sessions.{emission_step, end_step, on_each_bus, turn_step, turns_step};
@@ -13,10 +13,10 @@ ghost use Rattle.world_core.specs.OnBuses.{AreNumbered};
 
 use crate::course::Course;
 use crate::plan::NodePlan;
-use bus_log::{Line, LineList};
 use bus_medium::Medium;
 use bus_ops::{Item, read_ops};
 use ecu_session::{End, SessionOut};
+use log_lines::{Line, LineList};
 use std::alloc::{AllocError, Global};
 
 /// A node that had a session, and what came of it.

@@ -2,10 +2,11 @@
 ghost use Rattle.std.specs.Prelude.{◌≡◌, ◌<◌, All, IfOk, IfSome, OnErr, OnOk, Some, true, false, is_some, length, option_map, slice_get};
 ghost use Rattle.fmi_states.specs.declared.phase.Phase.TheVariants.{Fresh};
 ghost use Rattle.world_specs.specs.Next.{Finish, Return, Sessions, Start, at, next_event};
-ghost use Rattle.world_specs.specs.Network.{close_lines, step};
+ghost use Rattle.world_specs.specs.Network.{close_lines};
 ghost use Rattle.world_specs.specs.Plan.{IsPlan, units_of};
 ghost use Rattle.world_specs.specs.Step.{event_lines, world_behind};
 ghost use Rattle.world_core.specs.Events.{event_of};
+ghost use Rattle.world_core.specs.Happened.{Failed, Happened};
 ghost use Rattle.world_core.specs.Left.{KeepsShared, network_closed, units_behind, units_closed};
 ghost use Rattle.world_core.specs.Seen.{opened};
 ghost use Rattle.world_core.specs.Units.{AreApart, states_of};
@@ -13,8 +14,8 @@ ghost use Rattle.world_core.specs.Units.{AreApart, states_of};
 use crate::course::Course;
 use crate::event::{Event, What};
 use crate::plan::Plan;
-use bus_log::LineList;
 use fmi_states::Ecu;
+use log_lines::LineList;
 use std::alloc::{AllocError, Global};
 use std::marker::Model;
 
@@ -122,8 +123,7 @@ impl<E: Ecu> World<E> {
         requires budget { self.old.network.events < self.old.plan.events }
         ensures state { OnOk result (self.new ≡ record self.old { network = world_behind (units_of E.answer E.phase_of self.old.plan) self.old.network (at (Finish bus) moment) }) }
         ensures lines { IfOk result (λ lines. lines ≡ event_lines (units_of E.answer E.phase_of self.old.plan) self.old.network (at (Finish bus) moment)) }
-        ensures fails { OnErr result (self.new.failed ≡ true) }
-        ensures events { OnErr result (self.new.network.events ≡ self.old.network.events) }
+        ensures failed { OnErr result (Failed self.old self.new) }
     {
         self.failed = true;
         let lines = self.course.finish(alloc, bus, moment)?;
@@ -145,8 +145,7 @@ impl<E: Ecu> World<E> {
         requires budget { self.old.network.events < self.old.plan.events }
         ensures state { OnOk result (self.new ≡ record self.old { network = world_behind (units_of E.answer E.phase_of self.old.plan) self.old.network (at (Return bus node) moment) }) }
         ensures lines { IfOk result (λ lines. lines ≡ event_lines (units_of E.answer E.phase_of self.old.plan) self.old.network (at (Return bus node) moment)) }
-        ensures fails { OnErr result (self.new.failed ≡ true) }
-        ensures events { OnErr result (self.new.network.events ≡ self.old.network.events) }
+        ensures failed { OnErr result (Failed self.old self.new) }
     {
         self.failed = true;
         let lines = self.course.recover(alloc, bus, node, moment)?;
@@ -162,8 +161,7 @@ impl<E: Ecu> World<E> {
         requires budget { self.old.network.events < self.old.plan.events }
         ensures state { OnOk result (self.new ≡ record self.old { network = world_behind (units_of E.answer E.phase_of self.old.plan) self.old.network (at (Start bus) moment) }) }
         ensures lines { IfOk result (λ lines. lines ≡ event_lines (units_of E.answer E.phase_of self.old.plan) self.old.network (at (Start bus) moment)) }
-        ensures fails { OnErr result (self.new.failed ≡ true) }
-        ensures events { OnErr result (self.new.network.events ≡ self.old.network.events) }
+        ensures failed { OnErr result (Failed self.old self.new) }
     {
         self.failed = true;
         let lines = self.course.start(alloc, bus, moment)?;
@@ -183,8 +181,7 @@ impl<E: Ecu> World<E> {
           shared = self.new.shared;
         }) }
         ensures lines { IfOk result (λ lines. lines ≡ event_lines (units_of E.answer E.phase_of self.old.plan) self.old.network (at Sessions moment)) }
-        ensures fails { OnErr result (self.new.failed ≡ true) }
-        ensures events { OnErr result (self.new.network.events ≡ self.old.network.events) }
+        ensures failed { OnErr result (Failed self.old self.new) }
     {
         self.failed = true;
         let turns = self
@@ -208,8 +205,7 @@ impl<E: Ecu> World<E> {
         }) }
         ensures shared { OnOk result (KeepsShared (event_of event).what self.old.shared self.new.shared) }
         ensures lines { IfOk result (λ lines. lines ≡ event_lines (units_of E.answer E.phase_of self.old.plan) self.old.network (event_of event)) }
-        ensures fails { OnErr result (self.new.failed ≡ true) }
-        ensures events { OnErr result (self.new.network.events ≡ self.old.network.events) }
+        ensures failed { OnErr result (Failed self.old self.new) }
     {
         let moment = event.moment;
         match event.what {
@@ -227,13 +223,8 @@ impl<E: Ecu> World<E> {
         requires goes_on { self.old.failed ≡ false }
         requires next { next_event self.old.plan.stop self.old.network ≡ Some (event_of event) }
         requires budget { self.old.network.events < self.old.plan.events }
-        ensures step { IfOk result (λ lines. step (units_of E.answer E.phase_of self.old.plan) self.old.plan.stop self.old.network ≡ Some (self.new.network, lines)) }
-        ensures units { OnOk result (self.new.units ≡ units_behind (units_of E.answer E.phase_of self.old.plan) self.old.network (event_of event) self.old.units) }
-        ensures shared { OnOk result (KeepsShared (event_of event).what self.old.shared self.new.shared) }
-        ensures plan { OnOk result (self.new.plan ≡ self.old.plan) }
-        ensures goes_on { OnOk result (self.new.failed ≡ false) }
-        ensures fails { OnErr result (self.new.failed ≡ true) }
-        ensures events { OnErr result (self.new.network.events ≡ self.old.network.events) }
+        ensures happened { IfOk result (λ lines. Happened E.Ecu self.old (event_of event) lines self.new) }
+        ensures failed { OnErr result (Failed self.old self.new) }
     {
         self.act(alloc, event)
     }
@@ -243,14 +234,8 @@ impl<E: Ecu> World<E> {
         requires goes_on { self.old.failed ≡ false }
         requires next { is_some (next_event self.old.plan.stop self.old.network) ≡ true }
         requires budget { self.old.network.events < self.old.plan.events }
-        ensures step { IfOk result (λ lines. step (units_of E.answer E.phase_of self.old.plan) self.old.plan.stop self.old.network ≡ Some (self.new.network, lines)) }
-        ensures units { OnOk result (IfSome (next_event self.old.plan.stop self.old.network)
-            (λ e. self.new.units ≡ units_behind (units_of E.answer E.phase_of self.old.plan) self.old.network e self.old.units)) }
-        ensures shared { OnOk result (IfSome (next_event self.old.plan.stop self.old.network) (λ e. KeepsShared e.what self.old.shared self.new.shared)) }
-        ensures plan { OnOk result (self.new.plan ≡ self.old.plan) }
-        ensures goes_on { OnOk result (self.new.failed ≡ false) }
-        ensures fails { OnErr result (self.new.failed ≡ true) }
-        ensures events { OnErr result (self.new.network.events ≡ self.old.network.events) }
+        ensures happened { IfOk result (λ lines. IfSome (next_event self.old.plan.stop self.old.network) (λ e. Happened E.Ecu self.old e lines self.new)) }
+        ensures failed { OnErr result (Failed self.old self.new) }
     {
         let event = self.next_event().unwrap();
         self.happen(alloc, event)
@@ -267,8 +252,7 @@ impl<E: Ecu> World<E> {
           shared = self.new.shared;
         }) }
         ensures lines { IfOk result (λ lines. lines ≡ close_lines (units_of E.answer E.phase_of self.old.plan) self.old.network) }
-        ensures fails { OnErr result (self.new.failed ≡ true) }
-        ensures events { OnErr result (self.new.network.events ≡ self.old.network.events) }
+        ensures failed { OnErr result (Failed self.old self.new) }
     {
         self.failed = true;
         self.course.leave_live();

@@ -29,7 +29,6 @@ two_buses-is = record {
   fuel = (omega arith, omega arith);
   some_buses = (omega arith, omega arith);
   some_nodes = (omega arith, omega arith);
-  few_errors = omega arith;
   buses = (
     record { number = refl; rate = record { in_range = (omega arith, omega arith); exact = refl }; fd_rate = tt; members = refl; errors = all-of _ [] tt },
     (record { number = refl; rate = record { in_range = (omega arith, omega arith); exact = refl }; fd_rate = tt; members = refl; errors = all-of _ [] tt }, tt),

@@ -29,6 +29,3 @@ pub use runs::{
     nothing_happens_after_the_stop, the_events_of_a_run_come_in_order,
     what_is_delivered_is_heard_at_once, who_is_out_is_silent,
 };
-
-#[cfg(test)]
-mod tests;

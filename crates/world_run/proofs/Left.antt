@@ -2,7 +2,6 @@
 use Rattle.std.proofs.Common.{◌≡◌, ◌<◌, ◌+◌, ◌-◌, ℕ, true, false, List, ◌∷◌, [], ◌++◌, Option, Some, None, refl, sym, ap, ◌∙◌}
 use Rattle.std.specs.Prelude.{is_some, option_map}
 use Rattle.log_specs.specs.Line.{Line, End}
-use Rattle.run_specs.specs.Run.{behind, log}
 use Rattle.log_writing.proofs.Runs.{behind-none, behind-zero, log-none, log-zero, lines-behind, ends-behind}
 use Rattle.world_specs.specs.Units.{Units}
 use Rattle.world_specs.specs.World.{World}

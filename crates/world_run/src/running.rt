@@ -1,12 +1,11 @@
 //! A network runs to its end, and its log is written line by line.
-ghost use Rattle.std.specs.Prelude.{◌≡◌, ◌≤◌, ◌+◌, ◌∷◌, ◌++◌, [], false, map, IfOk, OnOk, IsErrOf};
+ghost use Rattle.std.specs.Prelude.{◌≡◌, ◌≤◌, ◌+◌, ◌∷◌, ◌++◌, [], false, map, IfOk};
 ghost use Rattle.log_specs.specs.Line.{line_text};
 ghost use Rattle.log_specs.specs.Line as log;
 ghost use Rattle.log_writing.specs.Endings.{code_of};
+ghost use Rattle.log_writing.specs.Written.{WritesOrBreaksOff};
 ghost use Rattle.world_specs.specs.Plan.{units_of};
 ghost use Rattle.world_specs.specs.Network.{close_lines, run_lines, run_status};
-ghost use Rattle.bench_outside.specs.Causes.{Rose};
-ghost use Rattle.bench_outside.specs.Pieces.{WritesAll, BreaksOff, StopsBefore};
 
 use bench_outside::Sink;
 use fmi_states::Ecu;
@@ -22,17 +21,9 @@ fn close_with<E: Ecu, O: Sink>(
     out: &mut O,
 ) -> Result<Ending, RunError>
     requires goes_on { world.failed ≡ false }
-    ensures log { OnOk result (WritesAll O.Sink out.old out.new
-        (map line_text (close_lines (units_of E.answer E.phase_of world.plan) world.network ++ log.End (code_of ending) world.network.events ∷ []))) }
+    ensures written { WritesOrBreaksOff O.Sink out.old out.new (map line_text
+        (close_lines (units_of E.answer E.phase_of world.plan) world.network ++ log.End (code_of ending) world.network.events ∷ [])) result }
     ensures ending { IfOk result (λ e. e ≡ ending) }
-    ensures part { IsErrOf result RunError.Unwritten → BreaksOff O.Sink out.old out.new
-        (map line_text (close_lines (units_of E.answer E.phase_of world.plan) world.network ++ log.End (code_of ending) world.network.events ∷ [])) }
-    ensures stopped { IsErrOf result RunError.Memory → StopsBefore O.Sink out.old out.new
-        (map line_text (close_lines (units_of E.answer E.phase_of world.plan) world.network ++ log.End (code_of ending) world.network.events ∷ [])) }
-    ensures unwritten { IsErrOf result RunError.Unwritten → Rose (O.faults out.old) (O.faults out.new) }
-    ensures memory { IsErrOf result RunError.Memory → O.faults out.new ≡ O.faults out.old }
-    ensures kept { OnOk result (O.faults out.new ≡ O.faults out.old) }
-    ensures later { O.faults out.old ≤ O.faults out.new }
 {
     let events = world.events();
     let lines = world.close(alloc)?;
@@ -51,18 +42,10 @@ pub fn run<E: Ecu, O: Sink>(
 ) -> Result<Ending, RunError>
     requires goes_on { world.failed ≡ false }
     requires budget { world.network.events + budget ≤ world.plan.events }
-    ensures log { OnOk result (WritesAll O.Sink out.old out.new
-        (map line_text (run_lines (units_of E.answer E.phase_of world.plan) world.plan.stop budget world.network))) }
+    ensures written { WritesOrBreaksOff O.Sink out.old out.new
+        (map line_text (run_lines (units_of E.answer E.phase_of world.plan) world.plan.stop budget world.network)) result }
     ensures ending { IfOk result
         (λ e. code_of e ≡ run_status (units_of E.answer E.phase_of world.plan) world.plan.stop budget world.network) }
-    ensures part { IsErrOf result RunError.Unwritten → BreaksOff O.Sink out.old out.new
-        (map line_text (run_lines (units_of E.answer E.phase_of world.plan) world.plan.stop budget world.network)) }
-    ensures stopped { IsErrOf result RunError.Memory → StopsBefore O.Sink out.old out.new
-        (map line_text (run_lines (units_of E.answer E.phase_of world.plan) world.plan.stop budget world.network)) }
-    ensures unwritten { IsErrOf result RunError.Unwritten → Rose (O.faults out.old) (O.faults out.new) }
-    ensures memory { IsErrOf result RunError.Memory → O.faults out.new ≡ O.faults out.old }
-    ensures kept { OnOk result (O.faults out.new ≡ O.faults out.old) }
-    ensures later { O.faults out.old ≤ O.faults out.new }
 {
     let mut left = budget;
     while let Some(event) = world.next_event() {

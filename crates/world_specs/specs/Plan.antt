@@ -1,5 +1,5 @@
 -- The plan of a network: its buses and its nodes. Which plans there are, how the network of a plan opens, and its units.
-use Rattle.std.specs.Prelude.{◌≡◌, ◌≤◌, ◌<◌, ℕ, ◌+◌, ◌*◌, ◌-◌, ◌^◌, All, IfSome, true, List, [], ◌∷◌, ◌++◌, length, get_or, map, sum_by, flat_map, Option, Some, None, ⊤, if◌then◌else◌}
+use Rattle.std.specs.Prelude.{◌≡◌, ◌≤◌, ◌<◌, ℕ, ◌+◌, ◌*◌, ◌-◌, ◌^◌, All, IfSome, true, List, [], ◌∷◌, ◌++◌, length, get_or, map, flat_map, Option, Some, None, ⊤, if◌then◌else◌}
 use Rattle.fmi_states.specs.declared.phase.Phase.{Phase}
 use Rattle.fmi_states.specs.declared.call.Call.{Call}
 use Rattle.fmi_states.specs.declared.reply.Reply.{Reply}
@@ -106,7 +106,6 @@ pub record IsPlan (p : Plan) : Type 0 where
   pub fuel : Between 1 (10 ^ 9) p.fuel
   pub some_buses : Between 1 4 (length p.buses)
   pub some_nodes : Between 1 32 (length p.nodes)
-  pub few_errors : sum_by (λ b. length b.setup.errors) p.buses ≤ 1024
   pub buses : AllFrom 0 (IsBusPlan p) p.buses
   pub nodes : All (IsNodePlan (length p.buses)) p.nodes
 

@@ -1,6 +1,6 @@
 use Rattle.std.proofs.Common.{◌≡◌, List, ℕ, [], subst, IfOk, option_map, Bor, Option}
 use Rattle.log_specs.specs.Line.{Line}
-use Rattle.bus_log.specs.Lines.{line_of}
+use Rattle.log_lines.specs.Lines.{line_of}
 use Rattle.bus_log.proofs.FourWords.{four_or_more}
 use Rattle.bus_log.proofs.reading.line_of_words.Goals as goal
 

@@ -1,4 +1,4 @@
-use Rattle.bus_log.specs.Lines.{line_of}
+use Rattle.log_lines.specs.Lines.{line_of}
 use Rattle.bus_log.proofs.Exact.{found_of, only_of}
 use Rattle.bus_log.proofs.reading.read_line.Goals as goal
 

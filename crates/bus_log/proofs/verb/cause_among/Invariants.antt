@@ -1,6 +1,6 @@
 use Rattle.std.proofs.Common.{◌≡◌, length}
 use Rattle.log_specs.specs.Line.{cause_text}
-use Rattle.bus_log.specs.Lines.{cause_of}
+use Rattle.log_lines.specs.Lines.{cause_of}
 use Rattle.bus_log.specs.Verbs.{named}
 use Rattle.bus_log.proofs.verb.cause_among.Given as goal
 

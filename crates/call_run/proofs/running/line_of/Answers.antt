@@ -1,6 +1,6 @@
 use Rattle.std.proofs.Common.{sym, ◌∙◌, ap}
 use Rattle.wasm_types.specs.declared.module.Module.{Module}
-use Rattle.call_run.proofs.Starting.{start_fits}
+use Rattle.wasm_machine.proofs.Starting.{start_fits}
 use Rattle.call_run.proofs.running.line_of.Goals as goal
 
 pub call-requires-clause-fits : goal.call-requires-clause-fits

@@ -1,6 +1,7 @@
 use Rattle.wasm_machine.specs.Seen.{values_of}
 use Rattle.fmi_binding.specs.Coming.{held, guest_with}
-use Rattle.fmi_binding.proofs.Wholes.{start_fits, started, not_started, no_start}
+use Rattle.wasm_machine.proofs.Starting.{start_fits}
+use Rattle.fmi_binding.proofs.Wholes.{started, not_started, no_start}
 use Rattle.fmi_binding.proofs.asking.start.Goals as goal
 
 pub run-requires-clause-fits : goal.run-requires-clause-fits

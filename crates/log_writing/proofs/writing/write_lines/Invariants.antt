@@ -1,6 +1,6 @@
 use Rattle.std.proofs.Common.{◌≡◌, take, map}
 use Rattle.log_specs.specs.Line.{line_text}
-use Rattle.bus_log.specs.Lines.{line_of}
+use Rattle.log_lines.specs.Lines.{line_of}
 use Rattle.bench_outside.specs.Pieces.{WritesAll}
 use Rattle.log_writing.proofs.writing.write_lines.Given as goal
 

@@ -1,5 +1,5 @@
 use Rattle.std.proofs.Common.{◌≡◌, ◌∷◌}
-use Rattle.bus_log.specs.Lines.{line_of}
+use Rattle.log_lines.specs.Lines.{line_of}
 use Rattle.play_run.proofs.Submitting.{submit-step, takes-step, behind-step}
 use Rattle.play_run.proofs.moment.submit_at.Goals as goal
 

@@ -1,5 +1,5 @@
 use Rattle.std.proofs.Common.{◌≡◌, length, map}
-use Rattle.bus_log.specs.Lines.{line_of}
+use Rattle.log_lines.specs.Lines.{line_of}
 use Rattle.play_run.specs.Moments.{carried_out}
 use Rattle.play_run.specs.Prefixes.{at_moment, behind_moment}
 use Rattle.play_run.specs.Ready.{Takes}

@@ -1,5 +1,5 @@
 use Rattle.std.proofs.Common.{rules, ◌≡◌, ap, ◌∙◌, sym}
-use Rattle.bus_log.specs.Lines.{line_of}
+use Rattle.log_lines.specs.Lines.{line_of}
 use Rattle.play_run.proofs.Submitting.{taken-step, members-kept}
 use Rattle.play_run.proofs.moment.take_notices.Goals as goal
 

@@ -1,6 +1,6 @@
 use Rattle.std.proofs.Common.{◌≡◌, take, map, All, true}
 use Rattle.bus_specs.specs.Bus.{member_is}
-use Rattle.bus_log.specs.Lines.{line_of}
+use Rattle.log_lines.specs.Lines.{line_of}
 use Rattle.play_run.specs.Moments.{taken_by}
 use Rattle.play_run.proofs.moment.take_notices.Given as goal
 

@@ -12,7 +12,7 @@ returns c =
     (section_then kind.Memory memory_text _ _ _ _ _ _ c.as_slice-4.ensures c.in_ok-write_section-4.ensures
     (section_then kind.Global global_text _ _ _ _ _ _ c.as_slice-5.ensures c.in_ok-write_section-5.ensures
     (section_then kind.Export export_text _ _ _ _ _ _ c.as_slice-6.ensures c.in_ok-write_section-6.ensures
-    (text_then (start_text c.args.module.now.start) _ _ _ _ c.in_ok-write_start.ensures
+    (text_then (start_text c.args.parts.now.start) _ _ _ _ c.in_ok-write_start.ensures
     (section_then kind.Element element_text _ _ _ _ _ _ c.as_slice-7.ensures c.in_ok-write_section-7.ensures
     (section_then kind.Code flat_body_text _ _ _ _ _ _ c.as_slice-8.ensures c.in_ok-write_section-8.ensures
     (section_last kind.Data data_text _ _ _ _ c.as_slice-9.ensures c.in_ok-write_section-9.ensures)))))))))

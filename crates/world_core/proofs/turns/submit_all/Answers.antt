@@ -1,5 +1,5 @@
 use Rattle.std.proofs.Common.{◌<◌, length, map, ap, refl, sym, ◌∙◌, arith}
-use Rattle.bus_log.specs.Lines.{line_of}
+use Rattle.log_lines.specs.Lines.{line_of}
 use Rattle.bus_specs.specs.Bus.{Bus}
 use Rattle.world_specs.specs.Sessions.{emission_step}
 use Rattle.world_core.specs.Bare.{IsReadyFor, emitted_step}

@@ -1,6 +1,6 @@
 use Rattle.std.proofs.Common.{◌∷◌, [], map, ap, ◌∙◌}
 use Rattle.std.proofs.lemmas.List.{map-append}
-use Rattle.bus_log.specs.Lines.{line_of}
+use Rattle.log_lines.specs.Lines.{line_of}
 use Rattle.world_core.proofs.TurnSteps.{submit-ready, submit-whole}
 use Rattle.world_core.proofs.turns.submit_items.Goals as goal
 

@@ -1,6 +1,6 @@
 use Rattle.std.proofs.Common.{◌≡◌, map}
 use Rattle.std.specs.Vec.Iter.{into_iter_items}
-use Rattle.bus_log.specs.Lines.{line_of}
+use Rattle.log_lines.specs.Lines.{line_of}
 use Rattle.bus_ops.specs.Views.{items_of}
 use Rattle.world_core.specs.Asks.{MaySubmit, submitted}
 use Rattle.world_core.proofs.turns.submit_items.Given as goal

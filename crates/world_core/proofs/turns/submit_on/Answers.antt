@@ -1,5 +1,5 @@
 use Rattle.std.proofs.Common.{◌≡◌, ◌<◌, All, length, map, ap, ◌∙◌, sym, subst, arith}
-use Rattle.bus_log.specs.Lines.{line_of}
+use Rattle.log_lines.specs.Lines.{line_of}
 use Rattle.bus_ops.specs.ItemsIn.{items_in}
 use Rattle.operation_specs.specs.Reading.{IsWhole}
 use Rattle.session_specs.specs.Outcome.{Emission, SessionOut}

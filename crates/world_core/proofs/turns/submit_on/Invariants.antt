@@ -1,5 +1,5 @@
 use Rattle.std.proofs.Common.{◌≡◌, true, drop, flat_map, map}
-use Rattle.bus_log.specs.Lines.{line_of}
+use Rattle.log_lines.specs.Lines.{line_of}
 use Rattle.bus_specs.specs.Bus.{among}
 use Rattle.world_specs.specs.Sessions.{items_at}
 use Rattle.world_core.specs.Asks.{MayAsk, submitted}

@@ -1,6 +1,6 @@
 use Rattle.std.proofs.Common.{◌<◌, length, map, ap, sym, ◌∙◌, arith}
 use Rattle.std.proofs.lemmas.List.{map-append}
-use Rattle.bus_log.specs.Lines.{line_of}
+use Rattle.log_lines.specs.Lines.{line_of}
 use Rattle.bus_specs.specs.Bus.{Bus}
 use Rattle.bus_specs.specs.Inbox.{take_inbox}
 use Rattle.world_core.proofs.Walking.{walked-buses, walked-lines}

@@ -1,5 +1,5 @@
 use Rattle.std.proofs.Common.{◌≡◌, ◌++◌, flat_map, map, take, drop}
-use Rattle.bus_log.specs.Lines.{line_of}
+use Rattle.log_lines.specs.Lines.{line_of}
 use Rattle.bus_specs.specs.Bus.{Bus}
 use Rattle.bus_specs.specs.Inbox.{take_inbox}
 use Rattle.world_core.proofs.turns.take_inboxes.Given as goal

@@ -1,6 +1,6 @@
 use Rattle.std.proofs.Common.{◌<◌, ◌+◌, All, drop, fold, length, map, ap, ◌∙◌, sym, subst, arith}
 use Rattle.std.proofs.lemmas.List.{length-map}
-use Rattle.bus_log.specs.Lines.{line_of}
+use Rattle.log_lines.specs.Lines.{line_of}
 use Rattle.world_specs.specs.Plan.{NodePlan}
 use Rattle.world_specs.specs.Sessions.{turn_step, with_entered}
 use Rattle.world_core.specs.Bare.{AreTurns, IsReady, IsReadyFor}

@@ -1,5 +1,5 @@
 use Rattle.std.proofs.Common.{◌≡◌, ◌≤◌, All, drop, fold, length, map}
-use Rattle.bus_log.specs.Lines.{line_of}
+use Rattle.log_lines.specs.Lines.{line_of}
 use Rattle.world_specs.specs.Sessions.{turn_step, turns_step}
 use Rattle.world_core.specs.Bare.{AreTurns, IsReady}
 use Rattle.world_core.specs.OnBuses.{AreNumbered}

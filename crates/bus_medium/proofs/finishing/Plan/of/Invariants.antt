@@ -1,5 +1,5 @@
 use Rattle.std.proofs.Common.{◌≡◌, map, take, flat_map}
-use Rattle.bus_log.specs.Lines.{line_of}
+use Rattle.log_lines.specs.Lines.{line_of}
 use Rattle.bus_specs.specs.Finish.{counters_after}
 use Rattle.bus_medium.specs.Finishing.{after, receiver, state_line}
 use Rattle.bus_medium.proofs.finishing.Plan.of.Given as goal

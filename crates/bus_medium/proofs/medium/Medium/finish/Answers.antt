@@ -1,5 +1,5 @@
 use Rattle.std.proofs.Common.{◌≡◌, ◌∙◌, ◌++◌, length, map, flat_map, take, drop, ap, sym, subst, Some, None, arith, ◌*◌}
-use Rattle.bus_log.specs.Lines.{line_of}
+use Rattle.log_lines.specs.Lines.{line_of}
 use Rattle.bus_specs.specs.Bus.{Bus, Running}
 use Rattle.bus_specs.specs.Finish.{member_after_finish, counters_after}
 use Rattle.bus_medium.specs.Finishing.{after, receiver, state_line}

@@ -1,6 +1,6 @@
 use Rattle.std.proofs.Common.{◌≡◌, ◌++◌, drop}
 use Rattle.std.specs.Prelude.{map}
-use Rattle.bus_log.specs.Lines.{line_of}
+use Rattle.log_lines.specs.Lines.{line_of}
 use Rattle.bus_medium.specs.Offers.{request_at, somes}
 use Rattle.bus_medium.specs.Losers.{loser_lines, gone_from}
 use Rattle.bus_medium.proofs.medium.Medium.push_losers.Given as goal

@@ -1,6 +1,6 @@
 use Rattle.std.proofs.Common.{◌∙◌, ap, sym, true, ◌++◌, map}
 use Rattle.log_specs.specs.Line.{On}
-use Rattle.bus_log.specs.Lines.{line_of}
+use Rattle.log_lines.specs.Lines.{line_of}
 use Rattle.bus_specs.specs.Inbox.{told_notices}
 use Rattle.bus_medium.proofs.Taking.{told-found, told-missing}
 use Rattle.bus_medium.proofs.medium.Medium.told.Goals as goal

@@ -1,5 +1,5 @@
 use Rattle.std.proofs.Common.{◌≡◌, ◌≤◌, ◌<◌, ◌++◌, length, map, option_map, subst, sym, ap, ◌∙◌, arith}
-use Rattle.bus_log.specs.Lines.{line_of}
+use Rattle.log_lines.specs.Lines.{line_of}
 use Rattle.ecu_session.specs.Words.{end_of}
 use Rattle.world_core.specs.Closing.{lines_of_end}
 use Rattle.world_core.specs.Courses.{Course}

@@ -1,5 +1,5 @@
 use Rattle.std.proofs.Common.{map}
-use Rattle.bus_log.specs.Lines.{line_of}
+use Rattle.log_lines.specs.Lines.{line_of}
 use Rattle.world_core.specs.Closing.{IsClosing}
 use Rattle.world_core.proofs.course.Course.close_all.Given as goal
 

@@ -1,0 +1,11 @@
+pub mod Spaced
+pub mod Refusing
+pub mod Judging
+pub mod Modules
+pub mod CallForms
+pub mod Asked
+pub mod Ran
+pub mod Unplayed
+pub mod Unaccepted
+pub mod Fields
+pub mod Executed

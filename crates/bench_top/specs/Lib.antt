@@ -1,0 +1,11 @@
+pub mod Words
+pub mod Statuses
+pub mod Refusals
+pub mod Deed
+pub mod Playing
+pub mod Telling
+pub mod Calling
+pub mod Running
+pub mod Deeds
+pub mod Executing
+pub mod Report

@@ -1,7 +1,0 @@
-use Rattle.std.proofs.Common.{◌≡◌, ◌++◌, take}
-use Rattle.std.specs.Prelude.{flat_map}
-use Rattle.bus_log.specs.Commas.{behind_comma}
-use Rattle.bus_log.proofs.printing.push_others.Given as goal
-
-abbrev pub invariant-loop-number : goal.invariant-loop-number
-invariant-loop-number l = l.text.items ≡ l.fn.text.items ++ flat_map behind_comma (take l.number-index l.numbers)
