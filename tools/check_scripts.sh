@@ -51,12 +51,12 @@ refused 2 'has no line feed' "${header}0 0 send 000#"
 
 # The picture in docs is that of its play.
 "$BENCH" play "$docs/picture.play" > picture.log
-"$here/picture" picture.log > picture.svg
+"$here/picture" picture.log "$docs/picture.play" --width 1000 > picture.svg
 cmp picture.svg "$docs/picture.svg" || fail "docs/picture.svg isn't what tools/picture draws of docs/picture.play"
 "$here/explain" "$docs/picture.play" > answer
 grep -q 'a play' answer || fail "explain: docs/picture.play"
 python3 -c 'import sys, xml.dom.minidom; xml.dom.minidom.parse(sys.argv[1])' picture.svg
-"$here/picture" picture.log 0 200000 > part.svg
+"$here/picture" picture.log --from 0 --to 200000 > part.svg
 grep -q '>lost 100# keep<' part.svg || fail "picture: a lost arbitration is missing"
 grep -q '>0ff#<' part.svg || fail "picture: the identifier of a frame is missing"
 for log in "$docs"/../examples/plays/*.log; do
@@ -105,3 +105,8 @@ if command -v mandoc > /dev/null; then
 else
   echo "check_scripts: mandoc isn't there: docs/bench.1 is not checked"
 fi
+
+# Scripts with a check of their own: each is given the program.
+for check in "$here"/checks/*; do
+  [ ! -x "$check" ] || "$check" "$BENCH" || fail "$(basename "$check")"
+done

@@ -1,7 +1,7 @@
 #!/usr/bin/env bash
 # Assembles each text of examples/modules with wat2wasm (Debian's package wabt), and compares what the built
 # program, or the one that is named, writes of the module with the line in the text; likewise what
-# tools/module_line.py writes, and what the program writes of the calls in the text. Then it runs the program on each module of vectors/bodies.txt: it is accepted, or refused
+# tools/module_line.py writes, and what the program writes of the calls in the text. Then it runs the program on each module of vectors/cases/module_cases/bodies.txt: it is accepted, or refused
 # as the table says; and what the program accepts, here and there, wabt's wasm-validate accepts. What isn't there is
 # skipped, and that is said.
 set -eu
@@ -33,10 +33,10 @@ accepted() {
 # The modules of the table.
 if [ -x "$program" ]; then
   mkdir "$folder/table"
-  python3 - "$folder/table" ../../vectors/bodies.txt << 'END'
+  python3 - "$folder/table" ../../vectors/cases/module_cases/bodies.txt << 'END'
 import sys
 for number, line in enumerate(line for line in open(sys.argv[2]) if not line.startswith("#")):
-    runs, found = line.rstrip("\n").split(": ", 1)[1].rsplit(" = ", 1)
+    runs, found = line.rstrip("\n").split(" ", 1)[1].rsplit(" = ", 1)
     units = (run.partition("*") for run in runs.split())
     with open("%s/%d.wasm" % (sys.argv[1], number), "wb") as file:
         file.write(b"".join(bytes.fromhex(unit) * int(times or 1) for unit, _, times in units))

@@ -17,7 +17,7 @@ from assembler import module
 from folder_text import Network, Unit, put
 from module_bytes import Bytes
 from module_checks import ROWS
-from tried_modules import document_rows, from_runs, rows
+from tried_modules import cases, document_rows, from_runs
 
 MEBIBYTE = 2 ** 20
 GATE = "gate/modelDescription.toml"
@@ -82,11 +82,9 @@ def with_module(data, place=0):
 
 
 def modules():
-    """Each row of vectors/modules.txt and of vectors/bodies.txt."""
+    """Each case of modules.txt and of bodies.txt in vectors/cases/module_cases."""
     for name in "modules.txt", "bodies.txt":
-        for row in rows(name):
-            what, _, rest = row.partition(": ")
-            text, _, found = rest.rpartition(" = ")
+        for what, text, found in cases(name):
             words = found.split()
             refused = words[0][0].isupper()
             line = f"refused module 1 {' '.join((words + ['0'])[:3])}" if refused else None

@@ -1,11 +1,10 @@
 #!/usr/bin/env python3
-"""Tries the second implementation's parts on the tables of ../../vectors, which were written out by hand.
+"""Tries the second implementation's parts on the tables and cases of ../../vectors, which were written out by hand.
 
 Modules are read and their validity is found; numeric instructions are run; network files and descriptions are
 checked. It prints each row that is answered in another way.
 """
 import os
-import re
 import sys
 
 import description
@@ -21,9 +20,16 @@ VECTORS = os.path.join(os.path.dirname(os.path.realpath(__file__)), "../../vecto
 OPCODES = {row[0]: name for name, row in bodies.NUMERIC.items()}
 
 
-def rows(name):
-    with open(os.path.join(VECTORS, name), encoding="utf-8") as file:
-        return [line.rstrip("\n") for line in file if not line.startswith("#")]
+def cases(name):
+    """The cases of a table of modules: what is shown, the words behind the call, and the answer."""
+    shown = ""
+    with open(os.path.join(VECTORS, "cases/module_cases", name), encoding="utf-8") as file:
+        for line in file:
+            if line.startswith("#"):
+                shown = line[2:].rstrip("\n")
+                continue
+            question, _, answer = line.rstrip("\n").rpartition(" = ")
+            yield shown, question.partition(" ")[2], answer
 
 
 def from_runs(text):
@@ -93,12 +99,10 @@ def document_rows(name, whole):
 
 def tried():
     for name, answer in ("modules.txt", read_answer), ("bodies.txt", validity_answer):
-        for row in rows(name):
-            what, text, wanted = re.fullmatch(r"(.*?): ([0-9a-f* ]*) = (.*)", row).groups()
+        for what, text, wanted in cases(name):
             yield f"{name}: {what}", answer(from_runs(text)), wanted
-    for row in rows("numerics.txt"):
-        *words, wanted = row.split()
-        yield "numerics.txt: " + row, numeric_answer(words), wanted
+    for what, text, wanted in cases("numbers.txt"):
+        yield f"numbers.txt: {what}: {text}", numeric_answer(text.split()), wanted
     for name, whole, read in ("networks", "CAR", net_file.read), ("descriptions", "GATE", description.read):
         for what, text, wanted in document_rows(name, whole):
             yield f"{name}.py: {what}", document_answer(read, text), wanted
