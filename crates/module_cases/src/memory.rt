@@ -24,23 +24,23 @@ fn word(alloc: Global, word: &str) -> Result<String, Unanswered> {
 }
 
 /// The number at `BASE OFFSET WIDTH`, in hexadecimal.
-fn load(alloc: Global, pool: &Pool, memory: &Memory, rest: &str) -> Result<String, Unanswered>
-    requires { IsThere pool.now «memory».now }
+fn load(alloc: Global, pool: &Pool, held: &Memory, rest: &str) -> Result<String, Unanswered>
+    requires { IsThere pool.now held.now }
 {
     let (base, rest) = cut(rest);
     let (offset, rest) = cut(rest);
-    match memory.load(pool, short(base)?, short(offset)?, width(rest)?) {
+    match held.load(pool, short(base)?, short(offset)?, width(rest)?) {
         Some(number) => Ok(format!(in alloc; "{number:x}")?),
         None => word(alloc, "outside"),
     }
 }
 
 /// The bytes at `AT LEN`.
-fn read(alloc: Global, pool: &Pool, memory: &Memory, rest: &str) -> Result<String, Unanswered>
-    requires { IsThere pool.now «memory».now }
+fn read(alloc: Global, pool: &Pool, held: &Memory, rest: &str) -> Result<String, Unanswered>
+    requires { IsThere pool.now held.now }
 {
     let (at, len) = cut(rest);
-    match memory.read_range(alloc, pool, short(at)?, short(len)?)? {
+    match held.read_range(alloc, pool, short(at)?, short(len)?)? {
         Some(bytes) => told_bytes(alloc, &bytes),
         None => word(alloc, "outside"),
     }
@@ -54,11 +54,11 @@ fn done(alloc: Global, done: bool) -> Result<String, Unanswered> {
 fn store(
     alloc: Global,
     pool: &mut Pool,
-    memory: &mut Memory,
+    held: &mut Memory,
     rest: &str,
 ) -> Result<String, Unanswered>
-    requires { IsThere pool.old «memory».old }
-    ensures { IsThere pool.new «memory».new }
+    requires { IsThere pool.old held.old }
+    ensures { IsThere pool.new held.new }
 {
     let (base, rest) = cut(rest);
     let (offset, rest) = cut(rest);
@@ -66,7 +66,7 @@ fn store(
     let (base, offset) = (short(base)?, short(offset)?);
     let width = width(bytes)?;
     let number = hexadecimal(number)?;
-    let is_done = memory.store(alloc, pool, base, offset, width, number)?;
+    let is_done = held.store(alloc, pool, base, offset, width, number)?;
     done(alloc, is_done)
 }
 
@@ -74,16 +74,16 @@ fn store(
 fn write(
     alloc: Global,
     pool: &mut Pool,
-    memory: &mut Memory,
+    held: &mut Memory,
     rest: &str,
 ) -> Result<String, Unanswered>
-    requires { IsThere pool.old «memory».old }
-    ensures { IsThere pool.new «memory».new }
+    requires { IsThere pool.old held.old }
+    ensures { IsThere pool.new held.new }
 {
     let (at, runs) = cut(rest);
     let at = short(at)?;
     let bytes = bytes_of(alloc, runs)?;
-    let is_done = memory.write_range(alloc, pool, at, &bytes)?;
+    let is_done = held.write_range(alloc, pool, at, &bytes)?;
     done(alloc, is_done)
 }
 
@@ -91,14 +91,14 @@ fn write(
 fn grow(
     alloc: Global,
     pool: &mut Pool,
-    memory: &mut Memory,
+    held: &mut Memory,
     rest: &str,
 ) -> Result<String, Unanswered>
-    requires { IsThere pool.old «memory».old }
-    ensures { IsThere pool.new «memory».new }
+    requires { IsThere pool.old held.old }
+    ensures { IsThere pool.new held.new }
 {
     let pages = short(rest)?;
-    match memory.grow(alloc, pool, pages)? {
+    match held.grow(alloc, pool, pages)? {
         Some(before) => Ok(format!(in alloc; "from {before}")?),
         None => word(alloc, "refused"),
     }
@@ -108,20 +108,20 @@ fn grow(
 fn step(
     alloc: Global,
     pool: &mut Pool,
-    memory: &mut Memory,
+    held: &mut Memory,
     call: &str,
 ) -> Result<String, Unanswered>
-    requires { IsThere pool.old «memory».old }
-    ensures { IsThere pool.new «memory».new }
+    requires { IsThere pool.old held.old }
+    ensures { IsThere pool.new held.new }
 {
     let (name, rest) = cut(call);
     match name {
-        "load" => load(alloc, pool, memory, rest),
-        "read" => read(alloc, pool, memory, rest),
-        "store" => store(alloc, pool, memory, rest),
-        "write" => write(alloc, pool, memory, rest),
-        "grow" => grow(alloc, pool, memory, rest),
-        "size" => Ok(format!(in alloc; "{}", memory.size())?),
+        "load" => load(alloc, pool, held, rest),
+        "read" => read(alloc, pool, held, rest),
+        "store" => store(alloc, pool, held, rest),
+        "write" => write(alloc, pool, held, rest),
+        "grow" => grow(alloc, pool, held, rest),
+        "size" => Ok(format!(in alloc; "{}", held.size())?),
         _ => Err(Unanswered::Unknown),
     }
 }

@@ -153,19 +153,19 @@ indexed_instr op indexed.Local n = instr.Local op n
 indexed_instr op indexed.Globals n = instr.Globals op n
 
 -- local.get and i64.store16: an i32 address and an i64 are taken
-row-local_get : row 0x20 ≡ plain_row (Index indexed.Local)
-row-local_get = refl
+local_get-row : row 0x20 ≡ plain_row (Index indexed.Local)
+local_get-row = refl
 
-row-i64_store16 : row 0x3D ≡ typed_row (Access 2) (Two I32 I64) None
-row-i64_store16 = refl
+i64_store16-row : row 0x3D ≡ typed_row (Access 2) (Two I32 I64) None
+i64_store16-row = refl
 
 -- i64.rotr is the last binary operation, and f32.abs stands behind it
-row-i64_rotr : row 0x8A ≡ typed_row (Bare simple.Numeric) (Two I64 I64) (Some I64)
-row-i64_rotr = refl
+i64_rotr-row : row 0x8A ≡ typed_row (Bare simple.Numeric) (Two I64 I64) (Some I64)
+i64_rotr-row = refl
 
-row-f32_abs : row 0x8B ≡ plain_row Float
-row-f32_abs = refl
+f32_abs-row : row 0x8B ≡ plain_row Float
+f32_abs-row = refl
 
 -- sign extensions aren't in version 1
-row-i32_extend8_s : row 0xC0 ≡ plain_row Unknown
-row-i32_extend8_s = refl
+i32_extend8_s-row : row 0xC0 ≡ plain_row Unknown
+i32_extend8_s-row = refl

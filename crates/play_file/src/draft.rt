@@ -29,7 +29,7 @@ pub(crate) struct Draft {
     pub(crate) rate: u32,
     pub(crate) fd_rate: Option<u32>,
     pub(crate) nominal: BitTime,
-    pub(crate) data: Option<BitTime>,
+    pub(crate) fast: Option<BitTime>,
     pub(crate) nodes: u32,
     pub(crate) stop: u64,
     pub(crate) errors: Vec<ErrorEntry>,
@@ -49,7 +49,7 @@ impl Model for Draft {
     ghost invariant = { λ d. record {
       some : 1 ≤ d.nodes;
       nominal_is : d.nominal ≡ bit_time d.resolution d.rate;
-      data_is : d.data ≡ option_map (bit_time d.resolution) d.fd_rate;
+      fast_is : d.fast ≡ option_map (bit_time d.resolution) d.fd_rate;
       last_is : d.last ≡ last_of 0 d.actions.items;
     } };
 }
@@ -65,7 +65,7 @@ impl Draft {
             rate: self.rate,
             fd_rate: self.fd_rate,
             nominal: self.nominal,
-            data: self.data,
+            fast: self.fast,
             nodes: self.nodes,
             stop: self.stop,
             errors: self.errors,

@@ -45,7 +45,7 @@ fn header_in(
     let nodes = number_in(1, MOST_NODES, nodes)? as u32;
     let stop = number_in(0, LATEST, stop)?;
     let nominal = BitTime::of_rate(rate, resolution)?;
-    let data = if fd_rate == 0 {
+    let fast = if fd_rate == 0 {
         None
     } else {
         Some(BitTime::of_rate(fd_rate, resolution)?)
@@ -56,7 +56,7 @@ fn header_in(
         rate,
         fd_rate,
         nominal,
-        data,
+        fast,
         nodes,
         stop,
         errors: Vec::new(alloc),

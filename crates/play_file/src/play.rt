@@ -14,7 +14,7 @@ pub struct Play {
     pub(crate) rate: u32,
     pub(crate) fd_rate: Option<u32>,
     pub(crate) nominal: BitTime,
-    pub(crate) data: Option<BitTime>,
+    pub(crate) fast: Option<BitTime>,
     pub(crate) nodes: u32,
     pub(crate) stop: u64,
     pub(crate) errors: Vec<ErrorEntry>,
@@ -32,7 +32,7 @@ impl Model for Play {
     ghost invariant = { λ p. record {
       is_play : IsPlay (record { resolution = p.resolution; rate = p.rate; fd_rate = p.fd_rate; nodes = p.nodes; stop = p.stop; errors = p.errors.items; actions = p.actions.items });
       nominal_is : p.nominal ≡ bit_time p.resolution p.rate;
-      data_is : p.data ≡ option_map (bit_time p.resolution) p.fd_rate;
+      fast_is : p.fast ≡ option_map (bit_time p.resolution) p.fd_rate;
     } };
 }
 
@@ -74,7 +74,7 @@ impl Play {
         ensures value { result ≡ option_map (bit_time self.now.resolution) self.now.fd_rate }
         ensures play { IsPlay self.now }
     {
-        self.data
+        self.fast
     }
 
     /// How many nodes the bus has. Their numbers begin with 0.

@@ -6,6 +6,6 @@ pub invariant_of-self-2 : goal.invariant_of-self-2
 invariant_of-self-2 c = record {
   some = c.self.invariant.some;
   nominal_is = c.self.invariant.nominal_is;
-  data_is = c.self.invariant.data_is;
+  fast_is = c.self.invariant.fast_is;
   last_is = rw c.in_ok-push.ensures.items (c.moment-moment.ensures ∙ sym (last_of-push 0 c.self.inside.actions.items c.in-Some.action));
 }
