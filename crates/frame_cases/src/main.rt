@@ -9,50 +9,37 @@ mod reading;
 mod times;
 mod wire;
 
-use case_words::Unanswered;
+use case_words::{Answers, Unanswered, print_answers};
 use std::alloc::Global;
-use std::io::{self, BufRead, BufReader};
+use std::io;
 
-/// The answer to a question: its first word, and the others.
-fn answer(alloc: Global, call: &str, rest: &str) -> Result<String, Unanswered> {
-    match call {
-        "frame" => frames::frame(alloc, rest),
-        "frame_in" => frames::frame_in(alloc, rest),
-        "make" => frames::make(alloc, rest),
-        "copy" => frames::copy(alloc, rest),
-        "bytes" => lists::bytes(alloc, rest),
-        "bytes_in" => lists::bytes_in(alloc, rest),
-        "numbers" => lists::numbers(alloc, rest),
-        "name" => lists::name(alloc, rest),
-        "wire" => wire::wire(alloc, rest),
-        "bits" => wire::bits(alloc, rest),
-        "key" => wire::key(alloc, rest),
-        "bit" => times::bit(alloc, rest),
-        "scale" => times::scale(alloc, rest),
-        "items" => operations::items(alloc, rest),
-        "write" => operations::write(alloc, rest),
-        _ => Err(Unanswered::Unknown),
-    }
-}
+#[derive(Drop)]
+struct FrameCases;
 
-fn print_answer(rt: &impl Print, alloc: Global, line: &str) -> io::Result<()> {
-    let (call, rest) = line.split_once(' ').unwrap_or((line, ""));
-    match answer(alloc, call, rest) {
-        Ok(text) => println!(rt; "{text}"),
-        Err(Unanswered::Unknown) => println!(rt; "unknown call"),
-        Err(Unanswered::Memory) => println!(rt; "Memory"),
+impl Answers for FrameCases {
+    fn answer(&mut self, alloc: Global, call: &str, rest: &str) -> Result<String, Unanswered> {
+        match call {
+            "frame" => frames::frame(alloc, rest),
+            "frame_in" => frames::frame_in(alloc, rest),
+            "make" => frames::make(alloc, rest),
+            "copy" => frames::copy(alloc, rest),
+            "bytes" => lists::bytes(alloc, rest),
+            "bytes_in" => lists::bytes_in(alloc, rest),
+            "numbers" => lists::numbers(alloc, rest),
+            "name" => lists::name(alloc, rest),
+            "wire" => wire::wire(alloc, rest),
+            "bits" => wire::bits(alloc, rest),
+            "key" => wire::key(alloc, rest),
+            "bit" => times::bit(alloc, rest),
+            "scale" => times::scale(alloc, rest),
+            "items" => operations::items(alloc, rest),
+            "write" => operations::write(alloc, rest),
+            _ => Err(Unanswered::Unknown),
+        }
     }
 }
 
 fn main(rt: HostRuntime) -> io::Result<()> {
     let alloc = rt.alloc();
-    for line in BufReader::new(alloc, rt.reader())?.lines(alloc) {
-        let line = line?;
-        if line.starts_with('#') {
-            println!(rt; "{line}")?;
-        } else {
-            print_answer(&rt, alloc, &line)?;
-        }
-    }
-    Ok(())
+    print_answers(&rt, alloc, &mut FrameCases)
 }

@@ -9,52 +9,39 @@ mod modules;
 mod numbers;
 mod parts;
 
-use case_words::Unanswered;
+use case_words::{Answers, Unanswered, print_answers};
 use std::alloc::Global;
-use std::io::{self, BufRead, BufReader};
+use std::io;
 
-/// The answer to a question: its first word, and the others.
-fn answer(alloc: Global, call: &str, rest: &str) -> Result<String, Unanswered> {
-    match call {
-        "read_u32" => numbers::read_u32(alloc, rest),
-        "read_s32" => numbers::read_s32(alloc, rest),
-        "read_s64" => numbers::read_s64(alloc, rest),
-        "write_u32" => numbers::write_u32(alloc, rest),
-        "write_s32" => numbers::write_s32(alloc, rest),
-        "write_s64" => numbers::write_s64(alloc, rest),
-        "number" => numbers::number(alloc, rest),
-        "body" => code::body(alloc, rest),
-        "code" => code::code(alloc, rest),
-        "read" => modules::read(alloc, rest),
-        "parts" => modules::parts(alloc, rest),
-        "valid" => modules::valid(alloc, rest),
-        "written" => modules::written(alloc, rest),
-        "report" => modules::report(alloc, rest),
-        "call" => modules::call(alloc, rest),
-        "build" => building::build(alloc, rest),
-        "memory" => memory::memory(alloc, rest),
-        _ => Err(Unanswered::Unknown),
-    }
-}
+#[derive(Drop)]
+struct ModuleCases;
 
-fn print_answer(rt: &impl Print, alloc: Global, line: &str) -> io::Result<()> {
-    let (call, rest) = line.split_once(' ').unwrap_or((line, ""));
-    match answer(alloc, call, rest) {
-        Ok(text) => println!(rt; "{text}"),
-        Err(Unanswered::Unknown) => println!(rt; "unknown call"),
-        Err(Unanswered::Memory) => println!(rt; "Memory"),
+impl Answers for ModuleCases {
+    fn answer(&mut self, alloc: Global, call: &str, rest: &str) -> Result<String, Unanswered> {
+        match call {
+            "read_u32" => numbers::read_u32(alloc, rest),
+            "read_s32" => numbers::read_s32(alloc, rest),
+            "read_s64" => numbers::read_s64(alloc, rest),
+            "write_u32" => numbers::write_u32(alloc, rest),
+            "write_s32" => numbers::write_s32(alloc, rest),
+            "write_s64" => numbers::write_s64(alloc, rest),
+            "number" => numbers::number(alloc, rest),
+            "body" => code::body(alloc, rest),
+            "code" => code::code(alloc, rest),
+            "read" => modules::read(alloc, rest),
+            "parts" => modules::parts(alloc, rest),
+            "valid" => modules::valid(alloc, rest),
+            "written" => modules::written(alloc, rest),
+            "report" => modules::report(alloc, rest),
+            "call" => modules::call(alloc, rest),
+            "build" => building::build(alloc, rest),
+            "memory" => memory::memory(alloc, rest),
+            _ => Err(Unanswered::Unknown),
+        }
     }
 }
 
 fn main(rt: HostRuntime) -> io::Result<()> {
     let alloc = rt.alloc();
-    for line in BufReader::new(alloc, rt.reader())?.lines(alloc) {
-        let line = line?;
-        if line.starts_with('#') {
-            println!(rt; "{line}")?;
-        } else {
-            print_answer(&rt, alloc, &line)?;
-        }
-    }
-    Ok(())
+    print_answers(&rt, alloc, &mut ModuleCases)
 }
