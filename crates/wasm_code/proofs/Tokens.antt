@@ -1,10 +1,11 @@
 -- Tokens: what is spelled is read, and what is read is spelled.
-use Rattle.std.proofs.Common.{◌≡◌, ℕ, ◌+◌, ◌≤◌, Bool, true, false, cond, List, [], ◌∷◌, ◌++◌, length, Ok, refl, sym, ap, subst, ◌∙◌, arith, nat_lt}
+use Rattle.std.proofs.Common.{◌≡◌, ℕ, ◌+◌, ◌≤◌, Bool, true, false, cond, List, [], ◌∷◌, ◌++◌, length, Result, Ok, Err, refl, sym, ap, subst, ◌∙◌, arith, nat_lt}
 use Rattle.std.proofs.lemmas.Bool.{leb-true, and_parts}
 use Rattle.leb_bytes.proofs.Spelled.{IsBytes}
 use Rattle.wasm_types.specs.declared.instr.ValType.TheVariants.{I32, I64}
 use Rattle.wasm_types.specs.declared.instr.Instr.{Instr}
 use Rattle.wasm_types.specs.declared.instr.Instr.TheVariants as instr
+use Rattle.module_specs.specs.declared.fault.Fault.{Fault}
 use Rattle.module_specs.specs.declared.opcodes.Kind.{Kind}
 use Rattle.module_specs.specs.declared.opcodes.Kind.TheVariants as kind
 use Rattle.module_specs.specs.declared.opcodes.Group.{Group}
@@ -14,10 +15,23 @@ use Rattle.module_specs.specs.declared.token.Token.TheVariants.{Plain, Opens, El
 use Rattle.module_specs.specs.Opcodes.{Family, control_table, data_table, numeric_table, is_of, look_up, group_of, simple_instr, indexed_instr, kind_byte}
 use Rattle.module_specs.specs.Spelling.{Here, SpellsU32, SpellsVector}
 use Rattle.module_specs.specs.CodeSpelling.{SpellsImmediates, SpellsInstr}
-use Rattle.module_specs.specs.Reading.{◌>>=◌, byte_at, u32_at, s32_at, s64_at, zero_at, vector_at}
+use Rattle.module_specs.specs.Reading.{Read, ◌>>=◌, Gives, byte_at, u32_at, s32_at, s64_at, zero_at, vector_at}
 use Rattle.module_specs.specs.CodeReading.{immediates_at, token_at}
 use Rattle.module_specs.proofs.Places.{bind_ok, ok_is, done, nothing_here, here_first, here_second, here_join, same_text, byte_again, byte_rest, byte_here, u32_again, s32_again, u32_here, s32_here, s64_again, s64_here, zero_again, zero_here}
+use Rattle.module_specs.proofs.Loops.{fails_of}
 use Rattle.module_specs.proofs.Readers.{Tells, vector_tells, u32_tells}
+
+pub gives_same : {A : Type 0} (r read : Result A Fault) → read ≡ r → Gives (λ x. x) r read
+gives_same (Ok x) read h = h
+gives_same (Err e) read h = fails_of e read h
+
+-- what follows an opcode of this group is the token
+pub gives_token : (b : List ℕ) (at op next : ℕ) (g : Group) (r : Read Token) → byte_at b at ≡ Ok (op, next) → group_of op ≡ g
+    → r ≡ immediates_at b at op next g → Gives (λ x. x) r (token_at b at)
+unfolding token_at
+gives_token b at op next g r byte is h =
+    gives_same r (token_at b at)
+    (ap (λ r. r >>= λ op. immediates_at b at op.0 op.1 (group_of op.0)) byte ∙ ap (immediates_at b at op next) is ∙ sym h)
 
 pub labels_tell : Tells (SpellsVector SpellsU32) (vector_at u32_at)
 labels_tell = vector_tells SpellsU32 u32_at u32_tells

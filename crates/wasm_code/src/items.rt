@@ -1,9 +1,10 @@
 //! Single items: bytes, numbers, types and tokens.
 //!
 //! Each looks at the bytes of a region, from the file's beginning to the region's end.
-ghost use Rattle.std.specs.Prelude.{◌≡◌, ◌≤◌, ◌<◌, length, IfOk};
+ghost use Rattle.std.specs.Prelude.{◌≡◌, ◌≤◌, ◌<◌, ℕ, length, IfOk};
 ghost use Rattle.module_specs.specs.Reading.{byte_at, u32_at, s32_at, s64_at, zero_at, Gives, each_at, vector_at, type_at, type_of, block_type_at};
-ghost use Rattle.module_specs.specs.CodeReading.{token_at};
+ghost use Rattle.module_specs.specs.CodeReading.{immediates_at, token_at};
+ghost use Rattle.module_specs.specs.declared.opcodes.Group.TheVariants as group;
 ghost use Rattle.module_specs.specs.Opcodes.{simple_instr, indexed_instr};
 
 use leb_bytes::{LebError, read_s32, read_s64, read_u32};
@@ -175,6 +176,35 @@ fn indexed_instr(op: u8, what: Indexed, index: u32) -> Instr
     }
 }
 
+// A constant of a type, behind its opcode.
+fn constant(bytes: &[u8], ty: ValType, at: usize) -> Result<(Token, usize), Fault>
+    requires { at ≤ length bytes.now }
+    ensures next { IfOk result (λ p. (at < p.1) × (p.1 ≤ length bytes.now)) }
+    ensures is { (place op : ℕ) → result ≡ immediates_at bytes.now place op at (group.Constant ty) }
+{
+    match ty {
+        ValType::I32 => {
+            let (value, next) = signed(bytes, at)?;
+            Ok((Token::Plain(Instr::I32Const(value)), next))
+        }
+        ValType::I64 => {
+            let (value, next) = long_signed(bytes, at)?;
+            Ok((Token::Plain(Instr::I64Const(value)), next))
+        }
+    }
+}
+
+// The alignment and the offset of an access, behind its opcode.
+fn access(bytes: &[u8], op: u8, at: usize) -> Result<(Token, usize), Fault>
+    requires { at ≤ length bytes.now }
+    ensures next { IfOk result (λ p. (at < p.1) × (p.1 ≤ length bytes.now)) }
+    ensures is { (place width : ℕ) → result ≡ immediates_at bytes.now place op at (group.Access width) }
+{
+    let (align, next) = number(bytes, at)?;
+    let (offset, next) = number(bytes, next)?;
+    Ok((Token::Plain(Instr::Access { op, align, offset }), next))
+}
+
 /// The token at a place: an opcode and its immediates, but for a block type.
 #[tactic(auto, unfolding(module_specs::specs::CodeReading::token_at))]
 pub fn read_token(alloc: Global, bytes: &[u8], at: usize) -> Result<(Token, usize), Fault>
@@ -196,19 +226,8 @@ pub fn read_token(alloc: Global, bytes: &[u8], at: usize) -> Result<(Token, usiz
             let (index, next) = number(bytes, next)?;
             Ok((Token::Plain(indexed_instr(op, what, index)), next))
         }
-        Group::Access(_) => {
-            let (align, next) = number(bytes, next)?;
-            let (offset, next) = number(bytes, next)?;
-            Ok((Token::Plain(Instr::Access { op, align, offset }), next))
-        }
-        Group::Constant(ValType::I32) => {
-            let (value, next) = signed(bytes, next)?;
-            Ok((Token::Plain(Instr::I32Const(value)), next))
-        }
-        Group::Constant(ValType::I64) => {
-            let (value, next) = long_signed(bytes, next)?;
-            Ok((Token::Plain(Instr::I64Const(value)), next))
-        }
+        Group::Access(_) => access(bytes, op, next),
+        Group::Constant(ty) => constant(bytes, ty, next),
         Group::Indirect => {
             let (ty, next) = number(bytes, next)?;
             let next = zero(bytes, next)?;

@@ -1,5 +1,6 @@
 //! Steps of the machine.
 ghost use Rattle.std.specs.Prelude.{◌≡◌, ◌≢◌, ◌≤◌, ◌<◌, ◌+◌, ◌^◌, [], List, ℕ, length, suc, ◌∷◌, ◌==◌, slice_get, slice_index_or, if◌then◌else◌, IfOk, OnErr, Ok, Some};
+ghost use Rattle.wasm_types.specs.declared.instr.Instr.TheVariants.{BrIf, BrTable};
 ghost use Rattle.wasm_types.specs.declared.module.Module.{Module};
 ghost use Rattle.wasm_machine.specs.declared.stack.Turn.TheVariants as Turn;
 ghost use Rattle.wasm_types.specs.Back.{nested_module};
@@ -23,7 +24,7 @@ use code_specs::TrapKind;
 use machine_steps::Label;
 use std::alloc::{AllocError, Global};
 use wasm_memory::Pool;
-use wasm_types::{Instr, Module, ValType};
+use wasm_types::{Instr, Labels, Module, ValType};
 
 #[inline(always)]
 fn block_label(end: u32, height: usize, carries: Option<ValType>) -> Label
@@ -34,6 +35,18 @@ fn block_label(end: u32, height: usize, carries: Option<ValType>) -> Label
         height,
         carries,
         again: false,
+    }
+}
+
+#[inline(always)]
+fn loop_label(position: usize, height: usize) -> Label
+    ensures { result ≡ steps.loop_label position height }
+{
+    Label {
+        target: position,
+        height,
+        carries: None,
+        again: true,
     }
 }
 
@@ -76,6 +89,47 @@ fn select(values: &mut Values)
 }
 
 impl Stack {
+    // The run goes on at the next instruction.
+    #[inline(always)]
+    fn next(&mut self) -> Turn
+        requires { self.old.position + 1 < 2 ^ 64 }
+        ensures go { result ≡ Turn.Go }
+        ensures position { self.new ≡ record self.old { position = self.old.position + 1 } }
+    {
+        self.position += 1;
+        Turn::Go
+    }
+
+    // A branch, if the condition on top isn't 0.
+    #[inline(always)]
+    #[tactic(auto, unfolding(code_specs::specs::Effects::effect_of))]
+    fn branch_if(&mut self, parts: &Module, label: u32) -> Turn
+        requires fine { (s : Store) × (fuel : ℕ) × (executing_in parts.now (BrIf label) self.old s fuel ≢ Stop Stuck) }
+        requires position { self.old.position + 1 < 2 ^ 64 }
+        requires room { HasRoom self.old.depth self.old.values self.old.labels self.old.callers }
+        requires ready { IsReady parts.now }
+        ensures { (s : Store) (fuel : ℕ) → executing_in parts.now (BrIf label) self.old s fuel ≡ seen result self.new s fuel }
+    {
+        if pop(&mut self.values) != 0 {
+            return self.branch(parts, label);
+        }
+        self.next()
+    }
+
+    // A branch to the label that the value on top picks.
+    #[inline(always)]
+    #[tactic(auto, unfolding(code_specs::specs::Effects::effect_of))]
+    fn branch_table(&mut self, parts: &Module, labels: &Labels, default: u32) -> Turn
+        requires fine { (s : Store) × (fuel : ℕ) × (executing_in parts.now (BrTable labels.now default) self.old s fuel ≢ Stop Stuck) }
+        requires room { HasRoom self.old.depth self.old.values self.old.labels self.old.callers }
+        requires ready { IsReady parts.now }
+        ensures { (s : Store) (fuel : ℕ) → executing_in parts.now (BrTable labels.now default) self.old s fuel ≡ seen result self.new s fuel }
+    {
+        let index = pop(&mut self.values);
+        let label = picked(labels.as_slice(), index, default);
+        self.branch(parts, label)
+    }
+
     // An if, by the condition on top.
     #[inline(always)]
     fn choose(&mut self, carries: Option<ValType>, else_at: Option<u32>, end: u32) -> Turn
@@ -100,11 +154,11 @@ impl Stack {
 
     // local.get, local.set and local.tee.
     #[inline(always)]
-    fn local(&mut self, op: u8, index: u32)
+    fn local(&mut self, op: u8, index: u32) -> Turn
         requires fine { (fm : Module) × (s : Store) × (fuel : ℕ) × (local_in fm op index self.old s fuel ≢ Stop Stuck) }
         requires position { self.old.position + 1 < 2 ^ 64 }
         requires room { HasRoom self.old.depth self.old.values self.old.labels self.old.callers }
-        ensures { (fm : Module) (s : Store) (fuel : ℕ) → local_in fm op index self.old s fuel ≡ seen Turn.Go self.new s fuel }
+        ensures { (fm : Module) (s : Store) (fuel : ℕ) → local_in fm op index self.old s fuel ≡ seen result self.new s fuel }
     {
         match op {
             0x20 => {
@@ -120,7 +174,7 @@ impl Stack {
                 set_local(&mut self.values, self.base, index, n);
             }
         }
-        self.position += 1;
+        self.next()
     }
 
     // call_indirect, at this entry of the table.
@@ -176,28 +230,16 @@ impl Stack {
                 Ok(self.enter(self.position + 1, label))
             }
             Instr::Loop { .. } => {
-                let label = Label {
-                    target: self.position + 1,
-                    height: self.values.len(),
-                    carries: None,
-                    again: true,
-                };
+                let label = loop_label(self.position + 1, self.values.len());
                 Ok(self.enter(self.position + 1, label))
             }
             Instr::Br(label) => Ok(self.branch(parts, *label)),
-            Instr::BrIf(label) => {
-                if pop(&mut self.values) != 0 {
-                    return Ok(self.branch(parts, *label));
-                }
-                self.position += 1;
-                Ok(Turn::Go)
-            }
+            Instr::BrIf(label) => Ok(self.branch_if(parts, *label)),
             Instr::Return => Ok(self.leave(parts)),
             Instr::Call(index) => Ok(self.call(parts, *index)),
             Instr::Drop => {
                 let _dropped = pop(&mut self.values);
-                self.position += 1;
-                Ok(Turn::Go)
+                Ok(self.next())
             }
             Instr::Unreachable => Ok(Turn::Trapped(TrapKind::Unreachable)),
             Instr::If {
@@ -205,29 +247,18 @@ impl Stack {
                 else_at,
                 end,
             } => Ok(self.choose(*result, *else_at, *end)),
-            Instr::BrTable { labels, default } => {
-                let index = pop(&mut self.values);
-                let label = picked(labels.as_slice(), index, *default);
-                Ok(self.branch(parts, label))
-            }
+            Instr::BrTable { labels, default } => Ok(self.branch_table(parts, labels, *default)),
             Instr::CallIndirect(ty) => {
                 let index = pop(&mut self.values);
                 Ok(self.call_entry(parts, entry_at(&instance.table, index), *ty))
             }
             Instr::Select => {
                 select(&mut self.values);
-                self.position += 1;
-                Ok(Turn::Go)
+                Ok(self.next())
             }
-            Instr::Local { op, index } => {
-                self.local(*op, *index);
-                Ok(Turn::Go)
-            }
+            Instr::Local { op, index } => Ok(self.local(*op, *index)),
             _ => match plain(alloc, &mut self.values, parts, instance, pool, instr)? {
-                None => {
-                    self.position += 1;
-                    Ok(Turn::Go)
-                }
+                None => Ok(self.next()),
                 Some(kind) => Ok(Turn::Trapped(kind)),
             },
         }

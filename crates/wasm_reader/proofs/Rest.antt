@@ -1,10 +1,10 @@
 -- Reading sections one after the other, as a loop does, and the module that they make.
-use Rattle.std.proofs.Common.{◌≡◌, ℕ, zero, suc, ◌-◌, ◌+◌, ◌≤◌, ◌<◌, Bool, true, false, not, cond, eqb, ◌&&◌, List, [], ◌∷◌, length, take, drop, map, Some, Result, Ok, Err, refl, sym, ap, subst, ◌∙◌, arith}
+use Rattle.std.proofs.Common.{◌≡◌, ℕ, zero, suc, ◌-◌, ◌+◌, ◌≤◌, ◌<◌, Bool, true, false, not, cond, eqb, ◌&&◌, List, [], ◌∷◌, length, drop, Some, Result, Ok, Err, refl, sym, ap, subst, ◌∙◌, arith}
 use Rattle.std.specs.Prelude.{nat_lt, nat_le}
 use Rattle.std.proofs.lemmas.Bool.{lt-ltb, le-ltb}
 use Rattle.std.proofs.lemmas.List.{length-map, length-take, length-drop}
 use Rattle.wasm_types.specs.declared.module.Module.{Module}
-use Rattle.wasm_types.specs.Modules.{NestedFunc, NestedModule, flat_func, flat_module}
+use Rattle.wasm_types.specs.Modules.{NestedModule, flat_func, flat_module}
 use Rattle.module_specs.specs.declared.fault.Fault.{Fault}
 use Rattle.module_specs.specs.declared.fault.Fault.TheVariants as fault
 use Rattle.module_specs.specs.declared.section.SectionKind.{SectionKind}
@@ -15,6 +15,7 @@ use Rattle.module_specs.specs.ModuleReading.{falls, section_at, sections_at, wit
 use Rattle.module_specs.proofs.Places.{ok_is}
 use Rattle.module_specs.proofs.Loops.{fails_of}
 use Rattle.module_specs.proofs.Modules.{same_bytes}
+use Rattle.wasm_code.proofs.Tokens.{gives_same}
 use Rattle.wasm_reader.specs.declared.content.Part.{Part}
 use Rattle.wasm_reader.specs.declared.content.Sofar.{Sofar}
 use Rattle.wasm_reader.specs.Flat.{flat_section, flat_part, flat_whole, before_of, with_part, with_all, nothing, ends_in, finished}
@@ -162,10 +163,6 @@ rest_is b at = by_read (sections_at (length b) start b at)
         by_test (lacks_bodies xs.0) m
         ∙ ap (λ n. refuse_if (not (eqb n (length indices))) (fault.Count (length b)) >>= λ fine. Ok (flat_module m)) (sym (length-map m.funcs flat_func))
         ∙ ap (finished (length b)) (sym h.1)
-
-pub gives_same : {A : Type 0} (r read : Result A Fault) → read ≡ r → Gives (λ x. x) r read
-gives_same (Ok x) read h = h
-gives_same (Err e) read h = fails_of e read h
 
 -- what stands behind the header is read as its sections make it
 pub finishes : (b : List ℕ) (at : ℕ) (p : Sofar) (r : Result Module Fault) → r ≡ finished (length b) p → ends_in nothing (sections_at (length b) start b at) ≡ Ok p

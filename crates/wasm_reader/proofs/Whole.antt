@@ -1,13 +1,12 @@
 -- What a module's reader promises.
-use Rattle.std.proofs.Common.{◌≡◌, ℕ, List, Result, Ok, Err, refl, sym, ap, subst, ◌∙◌}
-use Rattle.std.specs.Prelude.{IfOk}
+use Rattle.std.proofs.Common.{◌≡◌, ℕ, List, Result, Ok, Err, refl, sym, ap, subst}
 use Rattle.leb_bytes.proofs.Spelled.{IsBytes}
 use Rattle.wasm_types.specs.declared.module.Module.{Module}
 use Rattle.wasm_types.specs.Modules.{NestedModule, flat_module}
 use Rattle.module_specs.specs.declared.fault.Fault.{Fault}
 use Rattle.module_specs.specs.declared.fault.Fault.TheVariants.{Short, Size, Magic, Version, Section, Order, Number, Import, Float, Form, Utf8, Opcode, Nesting, Count, Limit, Memory}
 use Rattle.module_specs.specs.ModuleSpelling.{SpellsModule}
-use Rattle.module_specs.specs.Reading.{Gives, Fails}
+use Rattle.module_specs.specs.Reading.{Fails}
 use Rattle.module_specs.specs.ModuleReading.{module_read}
 use Rattle.module_specs.proofs.Places.{ok_is}
 use Rattle.module_specs.proofs.Sections.{BodiesTell}

@@ -4,6 +4,7 @@ ghost use Rattle.module_specs.specs.ModuleSpelling.{id_byte};
 ghost use Rattle.module_specs.specs.Reading.{Gives, sized_at};
 ghost use Rattle.module_specs.specs.ModuleReading.{custom_at, imports_at, section_content_at, kind_of_id, falls, section_at};
 ghost use Rattle.module_specs.specs.declared.fault.Fault.TheVariants.{Short, Size};
+ghost use Rattle.module_specs.specs.declared.section.SectionKind.TheVariants.{Export};
 ghost use Rattle.wasm_reader.specs.Flat.{flat_part, before_of, with_part, nothing};
 
 use crate::bodies::read_codes;
@@ -79,53 +80,44 @@ impl Sofar {
         }
     }
 
+    // The section counts as the last one, unless it is custom.
+    fn pass(&mut self, part: &Part)
+        ensures { self.new ≡ record self.old { last = (with_part part.now self.old).last } }
+    {
+        match part {
+            Part::Custom => {}
+            Part::Types(_) => self.last = SectionKind::Type,
+            Part::Imports => self.last = SectionKind::Import,
+            Part::Funcs(_) => self.last = SectionKind::Function,
+            Part::Tables(_) => self.last = SectionKind::Table,
+            Part::Memories(_) => self.last = SectionKind::Memory,
+            Part::Globals(_) => self.last = SectionKind::Global,
+            Part::Exports(_) => self.last = SectionKind::Export,
+            Part::Start(_) => self.last = SectionKind::Start,
+            Part::Elements(_) => self.last = SectionKind::Element,
+            Part::Codes(_) => self.last = SectionKind::Code,
+            Part::Datas(_) => self.last = SectionKind::Data,
+        }
+    }
+
     /// Puts a section in.
     pub fn put(&mut self, part: Part)
         ensures { self.new ≡ with_part part self.old }
     {
+        self.pass(&part);
         match part {
             Part::Custom => {}
-            Part::Types(types) => {
-                self.last = SectionKind::Type;
-                self.made.types = types;
-            }
-            Part::Imports => self.last = SectionKind::Import,
-            Part::Funcs(indices) => {
-                self.last = SectionKind::Function;
-                self.indices = indices;
-            }
-            Part::Tables(tables) => {
-                self.last = SectionKind::Table;
-                self.made.tables = tables;
-            }
-            Part::Memories(memories) => {
-                self.last = SectionKind::Memory;
-                self.made.memories = memories;
-            }
-            Part::Globals(globals) => {
-                self.last = SectionKind::Global;
-                self.made.globals = globals;
-            }
-            Part::Exports(exports) => {
-                self.last = SectionKind::Export;
-                self.made.exports = exports;
-            }
-            Part::Start(func) => {
-                self.last = SectionKind::Start;
-                self.made.start = Some(func);
-            }
-            Part::Elements(elements) => {
-                self.last = SectionKind::Element;
-                self.made.elements = elements;
-            }
-            Part::Codes(funcs) => {
-                self.last = SectionKind::Code;
-                self.made.funcs = funcs;
-            }
-            Part::Datas(datas) => {
-                self.last = SectionKind::Data;
-                self.made.datas = datas;
-            }
+            Part::Types(types) => self.made.types = types,
+            Part::Imports => {}
+            Part::Funcs(indices) => self.indices = indices,
+            Part::Tables(tables) => self.made.tables = tables,
+            Part::Memories(memories) => self.made.memories = memories,
+            Part::Globals(globals) => self.made.globals = globals,
+            Part::Exports(exports) => self.made.exports = exports,
+            Part::Start(func) => self.made.start = Some(func),
+            Part::Elements(elements) => self.made.elements = elements,
+            Part::Codes(funcs) => self.made.funcs = funcs,
+            Part::Datas(datas) => self.made.datas = datas,
         }
     }
 }
@@ -201,6 +193,45 @@ fn imports(id: usize, bytes: &[u8], at: usize) -> Result<(Part, usize), Fault>
     Ok((Part::Imports, next))
 }
 
+// The content of a section from the exports on.
+fn read_later(
+    alloc: Global,
+    sofar: &Sofar,
+    id: usize,
+    kind: SectionKind,
+    bytes: &[u8],
+    at: usize,
+) -> Result<(Part, usize), Fault>
+    requires within { at ≤ length bytes.now }
+    requires later { id_byte Export ≤ id_byte kind }
+    ensures next { IfOk result (λ p. p.1 ≤ length bytes.now) }
+    ensures is { Gives (λ p. p) result (flat_part (section_content_at (before_of sofar.now) id kind bytes.now at)) }
+{
+    match kind {
+        SectionKind::Export => {
+            let (exports, next) = exports(alloc, bytes, at)?;
+            Ok((Part::Exports(Exports::of(exports)), next))
+        }
+        SectionKind::Start => {
+            let (func, next) = number(bytes, at)?;
+            Ok((Part::Start(func), next))
+        }
+        SectionKind::Element => {
+            let (elements, next) = elements(alloc, bytes, at)?;
+            Ok((Part::Elements(Elements::of(elements)), next))
+        }
+        SectionKind::Code => {
+            let (funcs, next) = read_codes(alloc, id, sofar.indices.as_slice(), bytes, at)?;
+            Ok((Part::Codes(Funcs::of(funcs)), next))
+        }
+        SectionKind::Data => {
+            let (datas, next) = datas(alloc, bytes, at)?;
+            Ok((Part::Datas(Datas::of(datas)), next))
+        }
+        _ => unreachable!(),
+    }
+}
+
 // The content of a section of this kind, whose id byte stands at `id`.
 fn read_content(
     alloc: Global,
@@ -237,26 +268,7 @@ fn read_content(
             let (globals, next) = globals(alloc, bytes, at)?;
             Ok((Part::Globals(Globals::of(globals)), next))
         }
-        SectionKind::Export => {
-            let (exports, next) = exports(alloc, bytes, at)?;
-            Ok((Part::Exports(Exports::of(exports)), next))
-        }
-        SectionKind::Start => {
-            let (func, next) = number(bytes, at)?;
-            Ok((Part::Start(func), next))
-        }
-        SectionKind::Element => {
-            let (elements, next) = elements(alloc, bytes, at)?;
-            Ok((Part::Elements(Elements::of(elements)), next))
-        }
-        SectionKind::Code => {
-            let (funcs, next) = read_codes(alloc, id, sofar.indices.as_slice(), bytes, at)?;
-            Ok((Part::Codes(Funcs::of(funcs)), next))
-        }
-        SectionKind::Data => {
-            let (datas, next) = datas(alloc, bytes, at)?;
-            Ok((Part::Datas(Datas::of(datas)), next))
-        }
+        _ => read_later(alloc, sofar, id, kind, bytes, at),
     }
 }
 
