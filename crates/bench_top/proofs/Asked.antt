@@ -22,7 +22,8 @@ first : {X : Type 0} (x : X) (xs : List X) → Contains (x ∷ xs) x
 first x xs = (0, omega arith, refl)
 
 -- it stands in its own place
-at-place : (held : Contents) (net : List ℕ) (f : File) (name : List ℕ) → network_in (lacking held f) net ≡ Err (Unread f) → name_in held net f ≡ Some name
+at-place : (held : Contents) (net : List ℕ) (f : File) (name : List ℕ) → network_in (lacking held f) net ≡ Err (Unread f)
+    → name_in held net f ≡ Some name
     → Contains (asked_at held net f) (file_id f, name)
 at-place held net f name stops is =
     let answer : stops_at f (network_in (lacking held f) net) ≡ true = ap (stops_at f) stops ∙ same-file f in
@@ -41,8 +42,10 @@ module _ (held : Contents) (net : List ℕ) (x : FileId × List ℕ) where
   IsOfNode place = Contains (asked_at held net (DescriptionOf place)) x ⊎ Contains (asked_at held net (ModuleOf place)) x
 
   of-first : (start left : ℕ) → IsOfNode start → Contains (asked_from held net start (suc left)) x
-  of-first start left (inl h) = Contains-append_left (asked_at held net (DescriptionOf start) ++ asked_at held net (ModuleOf start)) _ x (Contains-append_left (asked_at held net (DescriptionOf start)) _ x h)
-  of-first start left (inr h) = Contains-append_left (asked_at held net (DescriptionOf start) ++ asked_at held net (ModuleOf start)) _ x (Contains-append_right (asked_at held net (DescriptionOf start)) _ x h)
+  of-first start left (inl h) = Contains-append_left (asked_at held net (DescriptionOf start) ++ asked_at held net (ModuleOf start)) _ x
+      (Contains-append_left (asked_at held net (DescriptionOf start)) _ x h)
+  of-first start left (inr h) = Contains-append_left (asked_at held net (DescriptionOf start) ++ asked_at held net (ModuleOf start)) _ x
+      (Contains-append_right (asked_at held net (DescriptionOf start)) _ x h)
 
   of-later : (start left : ℕ) → Contains (asked_from held net (start + 1) left) x → Contains (asked_from held net start (suc left)) x
   of-later start left h = Contains-append_right (asked_at held net (DescriptionOf start) ++ asked_at held net (ModuleOf start)) _ x h
@@ -57,7 +60,8 @@ module _ (held : Contents) (net : List ℕ) (x : FileId × List ℕ) where
       go later (inr more) = of-later start left (later more (omega (arith, high)) h)
 
 -- a node that is there is one of the file
-within : (r : Result NetworkFile Refusal) (place : ℕ) (n : Node) → option_and_then (λ (f : NetworkFile). slice_get f.nodes place) (result_ok r) ≡ Some n → place < nodes_of r
+within : (r : Result NetworkFile Refusal) (place : ℕ) (n : Node)
+    → option_and_then (λ (f : NetworkFile). slice_get f.nodes place) (result_ok r) ≡ Some n → place < nodes_of r
 within (Ok file) place n h = slice_get_within file.nodes place n h
 within (Err e) place n h = absurd (let wrong : None ≡ Some n = h in cc)
 
@@ -69,16 +73,19 @@ there-mapped : {X Y : Type 0} (o : Option X) (f : X → Y) (y : Y) → option_ma
 there-mapped None f y h = absurd (let wrong : None ≡ Some y = h in cc)
 there-mapped (Some x) f y h = (x, refl)
 
-pub is-asked : (held : Contents) (net : List ℕ) (f : File) (name : List ℕ) → network_in (lacking held f) net ≡ Err (Unread f) → name_in held net f ≡ Some name
+pub is-asked : (held : Contents) (net : List ℕ) (f : File) (name : List ℕ) → network_in (lacking held f) net ≡ Err (Unread f)
+    → name_in held net f ≡ Some name
     → Contains (asked_of held net) (file_id f, name)
 is-asked held net Main name stops is = Contains-append_left _ _ _ (at-place held net Main name stops is)
 is-asked held net (DescriptionOf place) name stops is =
     let node = there-mapped (node_in held net place) (description_at net) name is in
     let low = within (network_file_of (held (network_file_name net))) place node.0 node.1 in
     Contains-append_right (asked_at held net Main) _ _
-    (in-nodes held net _ (nodes_of (network_file_of (held (network_file_name net)))) 0 place (omega arith) (omega (arith, low)) (inl (at-place held net (DescriptionOf place) name stops is)))
+    (in-nodes held net _ (nodes_of (network_file_of (held (network_file_name net)))) 0 place (omega arith) (omega (arith, low))
+        (inl (at-place held net (DescriptionOf place) name stops is)))
 is-asked held net (ModuleOf place) name stops is =
     let node = there (node_in held net place) (module_at held net) name is in
     let low = within (network_file_of (held (network_file_name net))) place node.0 node.1 in
     Contains-append_right (asked_at held net Main) _ _
-    (in-nodes held net _ (nodes_of (network_file_of (held (network_file_name net)))) 0 place (omega arith) (omega (arith, low)) (inr (at-place held net (ModuleOf place) name stops is)))
+    (in-nodes held net _ (nodes_of (network_file_of (held (network_file_name net)))) 0 place (omega arith) (omega (arith, low))
+        (inr (at-place held net (ModuleOf place) name stops is)))

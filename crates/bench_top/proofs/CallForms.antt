@@ -9,13 +9,16 @@ is_there : {A : Type 0} (o : Option A) → is_some o ≡ true → (x : A) × (o 
 is_there None h = cc h
 is_there (Some x) h = (x, refl)
 
-behind_three : (file name fuel : List ℕ) (words : List (List ℕ)) (n : ℕ) → number_in 0 most_fuel fuel ≡ Some n → is_some (arguments_of_words words) ≡ true
+behind_three : (file name fuel : List ℕ) (words : List (List ℕ)) (n : ℕ) → number_in 0 most_fuel fuel ≡ Some n
+    → is_some (arguments_of_words words) ≡ true
     → (w : CallWords) × (of_call (file ∷ name ∷ fuel ∷ words) ≡ Some (Call w))
 behind_three file name fuel words n is there =
     let arguments = is_there (arguments_of_words words) there in (
       record { file = file; name = name; fuel = n; arguments = arguments.0 },
-      ap (λ o. option_map Call (option_and_then (λ fuel. option_map (λ arguments. record { file = file; name = name; fuel = fuel; arguments = arguments }) (arguments_of_words words)) o)) is
-          ∙ ap (λ o. option_map Call (option_map (λ arguments. record { file = file; name = name; fuel = n; arguments = arguments }) o)) arguments.1,
+      ap (λ o. option_map Call (option_and_then (λ fuel. option_map (λ arguments. record
+          { file = file; name = name; fuel = fuel; arguments = arguments }) (arguments_of_words words)) o)) is
+          ∙ ap (λ o. option_map Call (option_map (λ arguments. record { file = file; name = name; fuel = n; arguments = arguments }) o))
+              arguments.1,
     )
 
 -- three words and more, of which the third is fuel and those behind are arguments

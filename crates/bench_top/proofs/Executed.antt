@@ -49,7 +49,8 @@ module _ {H O : Type 0} (shelf : shelf_ghosts H) (sink : sink_ghosts O) (before 
       → CarriesOut shelf sink command before now old new result → Executes shelf sink words before now old new result
   executed words command result is did = record {
     usage = (λ e. absurd (did.form e), λ none. absurd (unlike none));
-    carried = λ c held at h. subst (λ c. (deed : Deed) × Does c held deed × CarriedOut sink deed old new (shelf.read_faults now).last result) (same c at) (did.carried held h);
+    carried = λ c held at h. subst (λ c. (deed : Deed) × Does c held deed × CarriedOut sink deed old new (shelf.read_faults now).last
+        result) (same c at) (did.carried held h);
     spared = λ c held deed r at h does e. did.spared held deed r h (subst (λ c. Does c held deed) (sym (same c at)) does) e;
     complete = λ c held at h quiet silent.
         let deed = did.carried held h in

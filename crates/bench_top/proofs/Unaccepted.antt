@@ -38,7 +38,8 @@ Uncalled words read fault = (m : NestedModule) × (read ≡ Ok m) × IsValid m �
 abbrev Silent : Status → List (List ℕ) → Type 0
 Silent status lines = IsFault status ⊎ (lines ≡ [])
 
-pub whole : {S : Type 0} (sink : Ghosts S) (s : S) (status : Status) (lines : List (List ℕ)) → Silent status lines → IsFault status ⊎ WritesAll sink s s lines
+pub whole : {S : Type 0} (sink : Ghosts S) (s : S) (status : Status) (lines : List (List ℕ)) → Silent status lines
+    → IsFault status ⊎ WritesAll sink s s lines
 whole sink s status lines (inl fault) = inl fault
 whole sink s status lines (inr e) = inr (subst (WritesAll sink s s) (sym e) (writes_nothing sink s))
 
@@ -68,7 +69,8 @@ untold read = unaccepted read_lines (λ fault. refl) (λ m i e. ap (valid_lines 
 -- as one of its functions is called
 pub uncalled : (words : CallWords) (read : Result NestedModule Fault) (error : CallError)
     → ((e : ReadError) → error ≡ call.Module (report.Read e) → Faulty read e)
-    → ((rule : Rule) (place at : ℕ) → error ≡ call.Module (report.Invalid (invalid_error.Rule rule place at)) → Invalid_at read rule place at)
+    → ((rule : Rule) (place at : ℕ) → error ≡ call.Module (report.Invalid (invalid_error.Rule rule place at))
+        → Invalid_at read rule place at)
     → ((fault : CallFault) → error ≡ call.Call fault → Uncalled words read fault)
     → Silent (uncalled_status error) (call_lines words read)
 uncalled words read (call.Module error) fault invalid refused =

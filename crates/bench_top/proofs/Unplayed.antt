@@ -27,5 +27,6 @@ answer budget Memory a is = inl tt
 
 pub whole : {S : Type 0} (sink : Ghosts S) (s : S) (budget : ℕ) (error : PlayError) (a : Result Play ℕ) → Names error a
     → IsFault (unplayed_status error) ⊎ WritesAll sink s s (lines_of budget (placed a))
-whole sink s budget (Line number) a is = inr (subst (λ (x : Result Play ℕ). WritesAll sink s s (lines_of budget (placed x))) (sym is) (writes_nothing sink s))
+whole sink s budget (Line number) a is = inr (subst (λ (x : Result Play ℕ). WritesAll sink s s (lines_of budget (placed x))) (sym is)
+    (writes_nothing sink s))
 whole sink s budget Memory a is = inl tt

@@ -35,7 +35,8 @@ asked_at held net file = if stops_at file (network_in (lacking held file) net) t
 -- those of the nodes from this place on, of which so many are left
 abbrev pub asked_from : Contents → List ℕ → (place left : ℕ) → List (FileId × List ℕ)
 asked_from held net place zero = []
-asked_from held net place (suc left) = asked_at held net (DescriptionOf place) ++ asked_at held net (ModuleOf place) ++ asked_from held net (place + 1) left
+asked_from held net place (suc left) = asked_at held net (DescriptionOf place) ++ asked_at held net (ModuleOf place) ++ asked_from held net
+    (place + 1) left
 
 -- how many nodes the network file has
 abbrev pub nodes_of : Result NetworkFile Refusal → ℕ

@@ -25,7 +25,8 @@ abbrev Have : NestedModule → List Row → Type 0
 Have m [] = Unit {0}
 Have m (r ∷ rs) = Has m r × Have m rs
 
-row_has : (m : NestedModule) (n : ℕ) (r : Row) (o : Option Export) → export_named r.name m.exports ≡ o → fault_at m n r.item o ≡ None → Has m r
+row_has : (m : NestedModule) (n : ℕ) (r : Row) (o : Option Export) → export_named r.name m.exports ≡ o → fault_at m n r.item o ≡ None
+    → Has m r
 row_has m n r None at h = cc
 row_has m n r (Some e) at h = record { export = e; named = at; is = of_test (is_item m e r.item) refl h }
   where
@@ -82,10 +83,12 @@ is_function m e t h = of_kind (e.kind == 0) refl h
     of_kind true is h = record { kind = is; ty = of_type (type_of_function m e.index) refl h }
     of_kind false is h = cc
 
-function_of_type : (m : NestedModule) (index : ℕ) (t : FuncType) → type_of_function m index ≡ Some t → (f : TypedFunction) × (function_at m index ≡ Some f) × (f.ty ≡ t)
+function_of_type : (m : NestedModule) (index : ℕ) (t : FuncType) → type_of_function m index ≡ Some t
+    → (f : TypedFunction) × (function_at m index ≡ Some f) × (f.ty ≡ t)
 function_of_type m index t is = by_function (function_at m index) refl is
   where
-    by_function : (o : Option TypedFunction) → function_at m index ≡ o → option_map (λ (f : TypedFunction). f.ty) o ≡ Some t → (f : TypedFunction) × (function_at m index ≡ Some f) × (f.ty ≡ t)
+    by_function : (o : Option TypedFunction) → function_at m index ≡ o → option_map (λ (f : TypedFunction). f.ty) o ≡ Some t
+        → (f : TypedFunction) × (function_at m index ≡ Some f) × (f.ty ≡ t)
     by_function None at e = cc
     by_function (Some f) at e = (f, at, some_is f.ty t e)
 
@@ -110,4 +113,5 @@ pub comes_to : (m : NestedModule) → IsValid m → (f : Function) (there : IsTh
     → Fit (type_of f).params arguments → AnswersWith (reverse (type_of f).results) (answer_of m there.index arguments s fuel)
 comes_to m valid f there arguments s fuel fit =
     subst (λ (t : FuncType). AnswersWith (reverse t.results) (answer_of m there.index arguments s fuel)) there.ty
-    (answers m valid there.index there.function arguments s fuel there.found (subst (λ (t : FuncType). Fit t.params arguments) (sym there.ty) fit))
+    (answers m valid there.index there.function arguments s fuel there.found
+        (subst (λ (t : FuncType). Fit t.params arguments) (sym there.ty) fit))

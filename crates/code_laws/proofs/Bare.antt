@@ -40,7 +40,8 @@ split_more ts v vs p h true None so e = cc
 split_more ts v vs p h true (Some q) so e =
     ap (with_top v.bits) (h q so) ∙ ap (λ p. Some (bits_of_split p)) (some_is (record { top = v ∷ q.top; below = q.below }) p e)
 
-first_of_split : (ts : List ValType) (vs : List Value) (p : Split Value) → split ts vs ≡ Some p → split_first (length ts) (all_bits vs) ≡ Some (bits_of_split p)
+first_of_split : (ts : List ValType) (vs : List Value) (p : Split Value) → split ts vs ≡ Some p
+    → split_first (length ts) (all_bits vs) ≡ Some (bits_of_split p)
 first_of_split [] vs p is = ap (λ p. Some (bits_of_split p)) (some_is (record { top = []; below = vs }) p is)
 first_of_split (t ∷ ts) [] p is = cc
 first_of_split (t ∷ ts) (v ∷ vs) p is = split_more ts v vs p (λ q e. first_of_split ts vs q e) (is_of t v) (split ts vs) refl is
@@ -60,7 +61,8 @@ one_shows [] go to h = tt
 one_shows (v ∷ vs) go to h = h v vs
 
 i32_shows : (vs : List Value) (go : ℕ → List Value → Effect Value) (to : ℕ → List ℕ → Effect ℕ)
-    → ((n : ℕ) (below : List Value) → Shows (go n below) (to n (all_bits below))) → Shows (on_i32 typed vs go) (on_i32 bare (all_bits vs) to)
+    → ((n : ℕ) (below : List Value) → Shows (go n below) (to n (all_bits below)))
+        → Shows (on_i32 typed vs go) (on_i32 bare (all_bits vs) to)
 i32_shows vs go to h =
     split_shows (I32 ∷ []) vs (λ top below. on_one top (λ v none. go v.bits below)) (λ top below. on_one top (λ v none. to v below))
     (λ p. one_shows p.top (λ v none. go v.bits p.below) (λ v none. to v (all_bits p.below)) (λ v none. h v.bits p.below))
@@ -77,19 +79,24 @@ same_numbers : (ns : List ℕ) → map (λ n. n) ns ≡ ns
 same_numbers [] = refl
 same_numbers (n ∷ ns) = ap (λ l. n ∷ l) (same_numbers ns)
 
-meaning_shows : (ts : List ValType) (below : List Value) (m : Meaning) → Shows (after_meaning typed ts below m) (after_meaning bare ts (all_bits below) m)
+meaning_shows : (ts : List ValType) (below : List Value) (m : Meaning)
+    → Shows (after_meaning typed ts below m) (after_meaning bare ts (all_bits below) m)
 meaning_shows ts below (Ok c) =
-    ap (λ l. continued l) (ap (λ l. l ++ all_bits below) (sym (results_bits ts c.number)) ∙ sym (bits_append (results typed ts c.number) below))
+    ap (λ l. continued l) (ap (λ l. l ++ all_bits below) (sym (results_bits ts c.number))
+        ∙ sym (bits_append (results typed ts c.number) below))
   where
     continued : List ℕ → Effect ℕ
     continued l = Continues l c.store
 meaning_shows ts below (Err kind) = refl
 
-plain_shows : (m : NestedModule) (i : Instr) (g : Option Signature) (vs : List Value) (s : Store) → Shows (plain_effect typed m i g vs s) (plain_effect bare m i g (all_bits vs) s)
+plain_shows : (m : NestedModule) (i : Instr) (g : Option Signature) (vs : List Value) (s : Store)
+    → Shows (plain_effect typed m i g vs s) (plain_effect bare m i g (all_bits vs) s)
 plain_shows m i None vs s = tt
 plain_shows m i (Some g) vs s =
-    split_shows g.takes vs (λ top below. after_meaning typed g.gives below (meaning_of m i (map bits_of top) s)) (λ top below. after_meaning bare g.gives below (meaning_of m i (map (λ n. n) top) s))
-    (λ p. subst (λ ns. Shows (after_meaning typed g.gives p.below (meaning_of m i (all_bits p.top) s)) (after_meaning bare g.gives (all_bits p.below) (meaning_of m i ns s))) (sym (same_numbers (all_bits p.top)))
+    split_shows g.takes vs (λ top below. after_meaning typed g.gives below (meaning_of m i (map bits_of top) s))
+        (λ top below. after_meaning bare g.gives below (meaning_of m i (map (λ n. n) top) s))
+    (λ p. subst (λ ns. Shows (after_meaning typed g.gives p.below (meaning_of m i (all_bits p.top) s))
+        (after_meaning bare g.gives (all_bits p.below) (meaning_of m i ns s))) (sym (same_numbers (all_bits p.top)))
     (meaning_shows g.gives p.below (meaning_of m i (all_bits p.top) s)))
 
 branch_shows : (b : Bool) (label : ℕ) (below : List Value) (s : Store)
@@ -110,43 +117,55 @@ selection_shows : (n : ℕ) (vs : List Value) (s : Store) → Shows (selection t
 selection_shows n [] s = tt
 selection_shows n (v ∷ []) s = tt
 selection_shows n (upper ∷ lower ∷ below) s =
-    alike_shows (is_same lower.ty upper.ty) (Continues (cond (n == 0) upper lower ∷ below) s) (Continues (cond (n == 0) upper.bits lower.bits ∷ all_bits below) s)
+    alike_shows (is_same lower.ty upper.ty) (Continues (cond (n == 0) upper lower ∷ below) s)
+        (Continues (cond (n == 0) upper.bits lower.bits ∷ all_bits below) s)
     (picked_shows (n == 0) upper lower below s)
 
-checked_shows : (index : ℕ) (asked has : Option FuncType) (below : List Value) → Shows (checked_call index asked has below) (checked_call index asked has (all_bits below))
+checked_shows : (index : ℕ) (asked has : Option FuncType) (below : List Value)
+    → Shows (checked_call index asked has below) (checked_call index asked has (all_bits below))
 checked_shows index None None below = tt
 checked_shows index None (Some g) below = tt
 checked_shows index (Some f) None below = tt
 checked_shows index (Some f) (Some g) below = by_test (is_same_type f g)
   where
-    by_test : (b : Bool) → Shows (cond b (Calls index below) (Traps trap.Signature)) (cond b (Calls index (all_bits below)) (Traps trap.Signature))
+    by_test : (b : Bool) → Shows (cond b (Calls index below) (Traps trap.Signature))
+        (cond b (Calls index (all_bits below)) (Traps trap.Signature))
     by_test true = refl
     by_test false = refl
 
-indirect_shows : (m : NestedModule) (ty : ℕ) (entry : Option (Option ℕ)) (below : List Value) → Shows (indirect_call m ty entry below) (indirect_call m ty entry (all_bits below))
+indirect_shows : (m : NestedModule) (ty : ℕ) (entry : Option (Option ℕ)) (below : List Value)
+    → Shows (indirect_call m ty entry below) (indirect_call m ty entry (all_bits below))
 indirect_shows m ty None below = refl
 indirect_shows m ty (Some None) below = refl
 indirect_shows m ty (Some (Some index)) below = checked_shows index (slice_get m.types ty) (type_of_function m index) below
 
 local_shows : (get set : Bool) (index : ℕ) (vs : List Value)
-    → Shows (cond get (ReadsLocal index vs) (cond set (on_one vs (λ v below. WritesLocal index v below)) (on_one vs (λ v below. WritesLocal index v vs))))
-    (cond get (ReadsLocal index (all_bits vs)) (cond set (on_one (all_bits vs) (λ v below. WritesLocal index v below)) (on_one (all_bits vs) (λ v below. WritesLocal index v (all_bits vs)))))
+    → Shows (cond get (ReadsLocal index vs) (cond set (on_one vs (λ v below. WritesLocal index v below))
+        (on_one vs (λ v below. WritesLocal index v vs))))
+    (cond get (ReadsLocal index (all_bits vs)) (cond set (on_one (all_bits vs) (λ v below. WritesLocal index v below))
+        (on_one (all_bits vs) (λ v below. WritesLocal index v (all_bits vs)))))
 local_shows true set index vs = refl
-local_shows false true index vs = one_shows vs (λ v below. WritesLocal index v below) (λ v below. WritesLocal index v below) (λ v below. refl)
-local_shows false false index vs = one_shows vs (λ v below. WritesLocal index v vs) (λ v below. WritesLocal index v (all_bits vs)) (λ v below. refl)
+local_shows false true index vs = one_shows vs (λ v below. WritesLocal index v below) (λ v below. WritesLocal index v below)
+    (λ v below. refl)
+local_shows false false index vs = one_shows vs (λ v below. WritesLocal index v vs) (λ v below. WritesLocal index v (all_bits vs))
+    (λ v below. refl)
 
 shows : (m : NestedModule) (i : Instr) (vs : List Value) (s : Store) → Shows (effect_of typed m i vs s) (effect_of bare m i (all_bits vs) s)
 unfolding effect_of
 shows m Unreachable vs s = refl
 shows m (Br label) vs s = refl
-shows m (BrIf label) vs s = i32_shows vs (λ n below. branch_if n label below s) (λ n below. branch_if n label below s) (λ n below. branch_shows (n == 0) label below s)
-shows m (BrTable labels default) vs s = i32_shows vs (λ n below. Branches (slice_index_or labels n default) below) (λ n below. Branches (slice_index_or labels n default) below) (λ n below. refl)
+shows m (BrIf label) vs s = i32_shows vs (λ n below. branch_if n label below s) (λ n below. branch_if n label below s)
+    (λ n below. branch_shows (n == 0) label below s)
+shows m (BrTable labels default) vs s = i32_shows vs (λ n below. Branches (slice_index_or labels n default) below)
+    (λ n below. Branches (slice_index_or labels n default) below) (λ n below. refl)
 shows m Return vs s = refl
 shows m (Call index) vs s = refl
 shows m (CallIndirect ty) vs s =
-    i32_shows vs (λ n below. indirect_call m ty (slice_get (table_of m) n) below) (λ n below. indirect_call m ty (slice_get (table_of m) n) below) (λ n below. indirect_shows m ty (slice_get (table_of m) n) below)
+    i32_shows vs (λ n below. indirect_call m ty (slice_get (table_of m) n) below)
+        (λ n below. indirect_call m ty (slice_get (table_of m) n) below) (λ n below. indirect_shows m ty (slice_get (table_of m) n) below)
 shows m Drop vs s = one_shows vs (λ v below. Continues below s) (λ v below. Continues below s) (λ v below. refl)
-shows m Select vs s = i32_shows vs (λ n below. selection typed n below s) (λ n below. selection bare n below s) (λ n below. selection_shows n below s)
+shows m Select vs s = i32_shows vs (λ n below. selection typed n below s) (λ n below. selection bare n below s)
+    (λ n below. selection_shows n below s)
 shows m (Local op index) vs s = local_shows (op == 0x20) (op == 0x21) index vs
 shows m i vs s = plain_shows m i (signature_of m i) vs s
 

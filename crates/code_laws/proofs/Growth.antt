@@ -21,17 +21,20 @@ no_fewer bytes zero new =
 no_fewer [] (suc address) new = omega arith
 no_fewer (b ∷ bytes) (suc address) new =
     let shift : suc address + length new ≡ suc (address + length new) = omega arith in
-    subst (λ (n : ℕ). length (b ∷ bytes) ≤ length (replaced_at_from b bytes address new n)) (sym shift) (omega (arith, no_fewer bytes address new))
+    subst (λ (n : ℕ). length (b ∷ bytes) ≤ length (replaced_at_from b bytes address new n)) (sym shift)
+        (omega (arith, no_fewer bytes address new))
   where
     replaced_at_from : ℕ → List ℕ → ℕ → List ℕ → ℕ → List ℕ
     replaced_at_from b bytes address new n = b ∷ (take address bytes ++ (new ++ drop n (b ∷ bytes)))
 
-store_bytes : (count address : ℕ) (new : List ℕ) (s : Store) (o : Option (List ℕ)) → HasBytes count s → KeepsMeaning (HasBytes count) (store_meaning address new s o)
+store_bytes : (count address : ℕ) (new : List ℕ) (s : Store) (o : Option (List ℕ)) → HasBytes count s
+    → KeepsMeaning (HasBytes count) (store_meaning address new s o)
 store_bytes count address new s None h = tt
 store_bytes count address new s (Some old) h = omega (arith, h, no_fewer s.bytes address new)
 
 grow_bytes : (count more : ℕ) (s : Store) (b : Bool) → HasBytes count s
-    → KeepsMeaning (HasBytes count) (cond b (Ok (record { number = pages s; store = record s { bytes = s.bytes ++ replicate (more * page_size) 0 } })) (Ok (record { number = unsigned 32 (negsuc 0); store = s })))
+    → KeepsMeaning (HasBytes count) (cond b (Ok (record { number = pages s; store = record s
+        { bytes = s.bytes ++ replicate (more * page_size) 0 } })) (Ok (record { number = unsigned 32 (negsuc 0); store = s })))
 grow_bytes count more s true h = omega (arith, h, length-append s.bytes (replicate (more * page_size) 0))
 grow_bytes count more s false h = h
 
@@ -42,13 +45,17 @@ unfolding meaning_of
 bytes_kept m count (instr.Numeric op) (j ∷ i ∷ []) s h = numeric_keeps (HasBytes count) (binary op i j) s h
 bytes_kept m count (instr.Globals op index) [] s h = h
 bytes_kept m count (instr.Globals op index) (n ∷ []) s h = h
-bytes_kept m count (instr.Access op align offset) (base ∷ []) s h = load_keeps (HasBytes count) op s (bytes_at s.bytes (base + offset) (access_bytes op)) h
-bytes_kept m count (instr.Access op align offset) (n ∷ base ∷ []) s h = store_bytes count (base + offset) (bytes_of (access_bytes op) n) s (bytes_at s.bytes (base + offset) (access_bytes op)) h
+bytes_kept m count (instr.Access op align offset) (base ∷ []) s h = load_keeps (HasBytes count) op s
+    (bytes_at s.bytes (base + offset) (access_bytes op)) h
+bytes_kept m count (instr.Access op align offset) (n ∷ base ∷ []) s h = store_bytes count (base + offset) (bytes_of (access_bytes op) n) s
+    (bytes_at s.bytes (base + offset) (access_bytes op)) h
 bytes_kept m count instr.MemorySize [] s h = h
 bytes_kept m count instr.MemorySize (n ∷ ns) s h = h
 bytes_kept m count instr.MemoryGrow (more ∷ []) s h = grow_bytes count more s (nat_le (pages s + more) (greatest_pages m)) h
 bytes_kept m count i numbers s h = h
 
-pub never_shrinks : (m : NestedModule) (index : ℕ) (arguments : List ℕ) (s : Store) (fuel : ℕ) → LeavesBytes (length s.bytes) (answer_of m index arguments s fuel)
+pub never_shrinks : (m : NestedModule) (index : ℕ) (arguments : List ℕ) (s : Store) (fuel : ℕ)
+    → LeavesBytes (length s.bytes) (answer_of m index arguments s fuel)
 never_shrinks m index arguments s fuel =
-    kept (HasBytes (length s.bytes)) m (record { by = λ i g numbers t is fits has. bytes_kept m (length s.bytes) i numbers t has }) index arguments s fuel (omega arith)
+    kept (HasBytes (length s.bytes)) m (record { by = λ i g numbers t is fits has. bytes_kept m (length s.bytes) i numbers t has }) index
+        arguments s fuel (omega arith)

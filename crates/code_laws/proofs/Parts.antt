@@ -84,7 +84,8 @@ there m p index lt =
 
 type_there : (m : NestedModule) (index : ℕ) (t : There m index) → type_of_function m index ≡ Some t.ty
 type_there m index t =
-    ap (λ o. option_map (λ (f : Function). f.ty) (option_and_then (λ f. option_map (typed_function f) (slice_get m.types f.ty)) o)) t.func_is
+    ap (λ o. option_map (λ (f : Function). f.ty) (option_and_then (λ f. option_map (typed_function f) (slice_get m.types f.ty)) o))
+        t.func_is
     ∙ ap (λ o. option_map (λ (f : Function). f.ty) (option_map (typed_function t.func) o)) t.ty_is
 
 -- ---- the table
@@ -135,15 +136,18 @@ AllNamed m es = (i : ℕ) (e : Element) → slice_get es i ≡ Some e → list_a
 
 named : (m : NestedModule) → Parts m → AllNamed m m.elements
 named m p i e at =
-    let x = both (is_some (slice_get m.tables 0)) (is_same I32 e.offset.ty && list_all (λ index. nat_lt index (length m.funcs)) e.funcs) (by_parts (each_passes (is_element m) 0 m.elements p.elements i e at)) in
+    let x = both (is_some (slice_get m.tables 0)) (is_same I32 e.offset.ty && list_all (λ index. nat_lt index (length m.funcs)) e.funcs)
+        (by_parts (each_passes (is_element m) 0 m.elements p.elements i e at)) in
     (both (is_same I32 e.offset.ty) (list_all (λ index. nat_lt index (length m.funcs)) e.funcs) x.1).1
   where
     regrouped : (a b c : Bool) → (a && b && c) ≡ true → (a && (b && c)) ≡ true
     regrouped true b c h = h
     regrouped false b c h = cc
 
-    by_parts : is_element m e ≡ true → (is_some (slice_get m.tables 0) && (is_same I32 e.offset.ty && list_all (λ index. nat_lt index (length m.funcs)) e.funcs)) ≡ true
-    by_parts h = regrouped (is_some (slice_get m.tables 0)) (is_same I32 e.offset.ty) (list_all (λ index. nat_lt index (length m.funcs)) e.funcs) h
+    by_parts : is_element m e ≡ true → (is_some (slice_get m.tables 0) && (is_same I32 e.offset.ty && list_all
+        (λ index. nat_lt index (length m.funcs)) e.funcs)) ≡ true
+    by_parts h = regrouped (is_some (slice_get m.tables 0)) (is_same I32 e.offset.ty)
+        (list_all (λ index. nat_lt index (length m.funcs)) e.funcs) h
 
 filled : (m : NestedModule) (es : List Element) (entries : List (Option ℕ)) → AllNamed m es → AllBelow (length m.funcs) entries
     → AllBelow (length m.funcs) (with_elements es entries)
@@ -152,13 +156,16 @@ filled m (e ∷ es) entries names h =
     let n = length m.funcs in
     let new = map Some e.funcs in
     filled m es (replaced_at entries e.offset.value new) (λ i f at. names (suc i) f at)
-    (below_append n (take e.offset.value entries) (new ++ drop (e.offset.value + length new) entries) (below_take n e.offset.value entries h)
-    (below_append n new (drop (e.offset.value + length new) entries) (below_new n e.funcs (names 0 e refl)) (below_drop n (e.offset.value + length new) entries h)))
+    (below_append n (take e.offset.value entries) (new ++ drop (e.offset.value + length new) entries)
+        (below_take n e.offset.value entries h)
+    (below_append n new (drop (e.offset.value + length new) entries) (below_new n e.funcs (names 0 e refl))
+        (below_drop n (e.offset.value + length new) entries h)))
 
 pub table_is : (m : NestedModule) → Parts m → HasTable m
 unfolding table_of
 table_is m p at index is =
-    let lt = below_at (length m.funcs) (with_elements m.elements (replicate (table_size m) None)) (filled m m.elements (replicate (table_size m) None) (named m p) (below_empty (length m.funcs) (table_size m))) at index is in
+    let lt = below_at (length m.funcs) (with_elements m.elements (replicate (table_size m) None))
+        (filled m m.elements (replicate (table_size m) None) (named m p) (below_empty (length m.funcs) (table_size m))) at index is in
     let t = there m p index lt in
     (t.ty, type_there m index t)
 
@@ -204,7 +211,8 @@ bodies_typed m place (g ∷ fs) u is (suc i) nf t at ty =
     bodies_typed m (place + 1) fs u x.then i nf t at ty
 
 -- each function of the module has a typed body
-pub functions_typed : (m : NestedModule) → Parts m → (index : ℕ) (f : Function) → function_at m index ≡ Some f → (s : OperandTypes) × (type_of_func m f ≡ Ok s)
+pub functions_typed : (m : NestedModule) → Parts m → (index : ℕ) (f : Function) → function_at m index ≡ Some f
+    → (s : OperandTypes) × (type_of_func m f ≡ Ok s)
 functions_typed m p index f is =
     let x = taken m index f is in
     let y = bodies_typed m 0 m.funcs tt p.bodies index x.func x.ty x.func_is x.ty_is in

@@ -45,7 +45,9 @@ abbrev pub size : ℕ
 size = length section_bytes
 
 sections_are_read : sections_at size start section_bytes 0 ≡ Ok (sections, size)
-unfolding byte_at u32_at s32_at s64_at zero_at each_at vector_at sized_at name_at type_at block_type_at token_at code_from runs_at locals_at content_at body_at func_type_at limits_at table_at constant_at global_at export_at offset_at element_at data_at imports_at custom_at bodies_at codes_at section_at sections_at is_utf8 chars encode_utf8
+unfolding byte_at u32_at s32_at s64_at zero_at each_at vector_at sized_at name_at type_at block_type_at token_at code_from runs_at locals_at
+    content_at body_at func_type_at limits_at table_at constant_at global_at export_at offset_at element_at data_at imports_at custom_at
+    bodies_at codes_at section_at sections_at is_utf8 chars encode_utf8
 sections_are_read = refl
 
 sections_fit : IsBytes section_bytes
@@ -67,7 +69,8 @@ abbrev behind : List Section → Before → Before
 behind [] s = s
 behind (x ∷ xs) s = behind xs (after x s)
 
-appended : (xs : List Section) (s : Before) (text : List ℕ) (y : Section) (more : List ℕ) → SpellsSections s xs text → SpellsSection (behind xs s) y more
+appended : (xs : List Section) (s : Before) (text : List ℕ) (y : Section) (more : List ℕ) → SpellsSections s xs text
+    → SpellsSection (behind xs s) y more
     → SpellsSections s (xs ++ y ∷ []) (text ++ more)
 appended [] s text y more t last = subst (λ l. SpellsSections s (y ∷ []) (l ++ more)) (sym t) (more, [], sym (append-nil more), last, refl)
 appended (x ∷ xs) s text y more t last =
@@ -92,13 +95,16 @@ data_spelled : (at : ℕ) (bytes : List ℕ) → SpellsConstant (constant at) (c
     → SpellsData (segment_at at bytes) (data_text (segment_at at bytes))
 unfolding shortest
 data_spelled at bytes place small =
-    (0 ∷ [], constant_text (constant at) ++ sized_text bytes, refl, u32_spelled 0 (omega arith), (constant_text (constant at), sized_text bytes, refl, place, bytes_spelled bytes small))
+    (0 ∷ [], constant_text (constant at) ++ sized_text bytes, refl, u32_spelled 0 (omega arith),
+        (constant_text (constant at), sized_text bytes, refl, place, bytes_spelled bytes small))
 
 at_first : SpellsConstant (constant 0) (constant_text (constant 0))
-at_first = (0x41 ∷ signed_text (pos 0), 0x0B ∷ [], refl, (pos 0, refl, (signed_text (pos 0), refl, signed_spelled 32 (pos 0) (omega arith) (omega arith) (search arith))), refl)
+at_first = (0x41 ∷ signed_text (pos 0), 0x0B ∷ [], refl, (pos 0, refl, (signed_text (pos 0), refl, signed_spelled 32 (pos 0) (omega arith)
+    (omega arith) (search arith))), refl)
 
 at_second : SpellsConstant (constant 32768) (constant_text (constant 32768))
-at_second = (0x41 ∷ signed_text (pos 32768), 0x0B ∷ [], refl, (pos 32768, refl, (signed_text (pos 32768), refl, signed_spelled 32 (pos 32768) (omega arith) (omega arith) (search arith))), refl)
+at_second = (0x41 ∷ signed_text (pos 32768), 0x0B ∷ [], refl, (pos 32768, refl,
+    (signed_text (pos 32768), refl, signed_spelled 32 (pos 32768) (omega arith) (omega arith) (search arith))), refl)
 
 -- ---- how long it is
 
@@ -133,7 +139,8 @@ module _ (numbers opening : List ℕ) (n : length numbers ≤ 168) (o : length o
 
   content_few : length content ≤ 6000
   content_few =
-      omega (arith, n, o, length-append (unsigned_text 2) (one ++ (two ++ [])), unsigned_most 2, length-append one (two ++ []), length-append two [], data_few 0 numbers, data_few 32768 opening, first_few, second_few)
+      omega (arith, n, o, length-append (unsigned_text 2) (one ++ (two ++ [])), unsigned_most 2, length-append one (two ++ []),
+          length-append two [], data_few 0 numbers, data_few 32768 opening, first_few, second_few)
 
   abbrev pub last : List ℕ
   last = section_text kind.Data content
@@ -155,7 +162,8 @@ module _ (numbers opening : List ℕ) (n : length numbers ≤ 168) (o : length o
               one ++ (two ++ []),
               refl,
               u32_spelled 2 (omega arith),
-              (one, two ++ [], refl, data_spelled 0 numbers at_first (omega (arith, n)), (two, [], refl, data_spelled 32768 opening at_second (omega (arith, o)), refl)),
+              (one, two ++ [], refl, data_spelled 0 numbers at_first (omega (arith, n)),
+                  (two, [], refl, data_spelled 32768 opening at_second (omega (arith, o)), refl)),
             ),
           ),
         ),
@@ -171,7 +179,8 @@ module _ (numbers opening : List ℕ) (n : length numbers ≤ 168) (o : length o
   bytes = magic ++ (version ++ rest)
 
   pub with_memory : SpellsModule (record program { datas = datas }) bytes
-  with_memory = (rest_few, (rest, refl, (sections ++ Datas datas ∷ [], refl, refl, appended sections start found.text (Datas datas) last found.spelled last_spelled)))
+  with_memory = (rest_few, (rest, refl, (sections ++ Datas datas ∷ [], refl, refl, appended sections start found.text (Datas datas) last
+      found.spelled last_spelled)))
 
 module _ (m : Manner) (answer opening : List ℕ) (a : length answer ≤ 128) (o : length opening ≤ 4800) where
   pub numbers_few : length (numbers_of m answer opening) ≤ 168

@@ -130,10 +130,12 @@ module _ (b : Bus) (now : ℕ) where
   submit-nodes node what = ((refl, told-node node what), tt)
 
   -- what belongs to the event before it
-  states-belong : (c : Count) (r : Running) (ms : List Member) → c.open_at ≡ None → fold count_line c (flat_map (state_lines b now r) ms) ≡ c
+  states-belong : (c : Count) (r : Running) (ms : List Member) → c.open_at ≡ None
+      → fold count_line c (flat_map (state_lines b now r) ms) ≡ c
   states-belong c r [] o = refl
   states-belong c r (m ∷ ms) o = fold-append count_line c (state_lines b now r m) (flat_map (state_lines b now r) ms)
-      ∙ ap (λ x. fold count_line x (flat_map (state_lines b now r) ms)) (go (same_level (level m.counters) (level (counters_after r m)))) ∙ states-belong c r ms o
+      ∙ ap (λ x. fold count_line x (flat_map (state_lines b now r) ms)) (go (same_level (level m.counters) (level (counters_after r m))))
+          ∙ states-belong c r ms o
     where
       go : (t : Bool) → fold count_line c (if t then [] else On now b.setup.number m.node (log.State (level (counters_after r m))) ∷ []) ≡ c
       go true = refl
@@ -143,9 +145,11 @@ module _ (b : Bus) (now : ℕ) where
   hurt-belongs c None o = refl
   hurt-belongs c (Some h) o = ap (λ x. record { events = c.events; open_at = x }) (sym o)
 
-  losses-belong : (c : Count) (ls : List Request) → c.open_at ≡ None → fold count_line c (map (λ r. On now b.setup.number r.node (loser_told b r)) ls) ≡ c
+  losses-belong : (c : Count) (ls : List Request) → c.open_at ≡ None
+      → fold count_line c (map (λ r. On now b.setup.number r.node (loser_told b r)) ls) ≡ c
   losses-belong c [] o = refl
-  losses-belong c (r ∷ ls) o = ap (λ x. fold count_line x (map (λ r. On now b.setup.number r.node (loser_told b r)) ls)) (go (discards b r)) ∙ losses-belong c ls o
+  losses-belong c (r ∷ ls) o = ap (λ x. fold count_line x (map (λ r. On now b.setup.number r.node (loser_told b r)) ls)) (go (discards b r))
+      ∙ losses-belong c ls o
     where
       go : (t : Bool) → count_told c now (if t then LostGone r.frame else LostKept r.frame) ≡ c
       go true = ap (λ x. record { events = c.events; open_at = x }) (sym o)
@@ -161,9 +165,11 @@ module _ (b : Bus) (now : ℕ) where
     where
       go : (o : Option Running) → is_some o ≡ true → fold count_line c (finish_with b now o).1 ≡ one_event c
       go None s = absurd (both_ways false refl s)
-      go (Some r) s = ap (λ x. fold count_line x (hurt_lines b now r.hurt ++ flat_map (state_lines b now r) b.members)) (outcome-one c r r.fault)
+      go (Some r) s = ap (λ x. fold count_line x (hurt_lines b now r.hurt ++ flat_map (state_lines b now r) b.members))
+          (outcome-one c r r.fault)
           ∙ fold-append count_line (one_event c) (hurt_lines b now r.hurt) (flat_map (state_lines b now r) b.members)
-          ∙ ap (λ x. fold count_line x (flat_map (state_lines b now r) b.members)) (hurt-belongs (one_event c) r.hurt refl) ∙ states-belong (one_event c) r b.members refl
+          ∙ ap (λ x. fold count_line x (flat_map (state_lines b now r) b.members)) (hurt-belongs (one_event c) r.hurt refl)
+              ∙ states-belong (one_event c) r b.members refl
 
   recover-one : (c : Count) (node : ℕ) → fold count_line c (recover b now node).1 ≡ one_event c
   unfolding recover
@@ -207,7 +213,8 @@ module _ (p : Scenario) (bit : 1 ≤ p.setup.nominal) where
         bus = steady p q.0 (take_inbox q.0 now n).0 c.bus (take-steady q.0 now n) (take_inbox-sound q.0 now n c.bus.sound);
         lines = nodes-append now q.1 (take_inbox q.0 now n).1 c.lines (take-nodes q.0 now n);
       }) (record { bus = h.bus; lines = tt }) in
-      all-pairs (Renewed now) action_step (filter (λ a. a.moment == now) w.ahead) (fold (along (λ b node. take_inbox b now node)) (w.bus, []) (takers w.bus now))
+      all-pairs (Renewed now) action_step (filter (λ a. a.moment == now) w.ahead)
+          (fold (along (λ b node. take_inbox b now node)) (w.bus, []) (takers w.bus now))
       (λ q x k c.
       let f = filter-among (λ (a : Action). a.moment == now) w.ahead x k in
       let there : x.moment ≡ now = eqb-true x.moment now f.1 in
@@ -218,7 +225,8 @@ module _ (p : Scenario) (bit : 1 ≤ p.setup.nominal) where
               (subst (λ t. NodeLines t (action_step q.0 x).1) there (submit-nodes q.0 x.moment x.node (submission_of (q.0).setup x.item)));
         };
         none = subst (λ t. NoNotice t (action_step q.0 x).0) there
-            (submit-none x.moment q.0 x.node (submission_of (q.0).setup x.item) (subst (λ s. 1 ≤ s.nominal) (sym c.lines.bus.setup) bit) (subst (λ t. NoNotice t q.0) (sym there) c.none));
+            (submit-none x.moment q.0 x.node (submission_of (q.0).setup x.item) (subst (λ s. 1 ≤ s.nominal) (sym c.lines.bus.setup) bit)
+                (subst (λ t. NoNotice t q.0) (sym there) c.none));
       })
       (record { lines = taken; none = λ m a. only m (takes-fewer now (takers w.bus now) (w.bus, []) (all-take now w.bus) m a) })
     where
@@ -230,7 +238,8 @@ module _ (p : Scenario) (bit : 1 ≤ p.setup.nominal) where
   abbrev Closed : Count → World → Type 0
   Closed c w = IfSome c.open_at (λ t. Fresh t w)
 
-  not-again : (w : World) (d : Due) (c : Count) → next_event p.stop w ≡ Some d → d.what ≡ Notices → Closed c w → is d.moment c.open_at ≡ false
+  not-again : (w : World) (d : Due) (c : Count) → next_event p.stop w ≡ Some d → d.what ≡ Notices → Closed c w
+      → is d.moment c.open_at ≡ false
   not-again w d c e q o = go c.open_at o
     where
       late : (t : ℕ) → Fresh t w → (t ≡ d.moment) → (next_due w.bus w.now ≡ Some d) ⊎ Asked w d → ⊥
@@ -255,12 +264,14 @@ module _ (p : Scenario) (bit : 1 ≤ p.setup.nominal) where
   event-counts w d c e h i o = go d.what refl (due-or-asked p.stop w d e)
     where
       whole : (what : What) → d.what ≡ what → (x : Count) → fold count_line c (event_step w d.moment what).1 ≡ x → x.events ≡ c.events + 1
-          → IfSome x.open_at (λ t. Fresh t (record { events = w.events + 1; now = d.moment; ahead = left_ahead w d.moment what; bus = (event_step w d.moment what).0 })) → Counts w d c
+          → IfSome x.open_at (λ t. Fresh t (record { events = w.events + 1; now = d.moment; ahead = left_ahead w d.moment what; bus
+              = (event_step w d.moment what).0 })) → Counts w d c
       whole what q x f m k = record {
         after = x;
         counted = subst (λ y. fold count_line c (event_step w d.moment y).1 ≡ x) (sym q) f;
         more = m;
-        closed = subst (λ y. IfSome x.open_at (λ t. Fresh t (record { events = w.events + 1; now = d.moment; ahead = left_ahead w d.moment y; bus = (event_step w d.moment y).0 }))) (sym q) k;
+        closed = subst (λ y. IfSome x.open_at (λ t. Fresh t (record { events = w.events + 1; now = d.moment; ahead = left_ahead w d.moment
+            y; bus = (event_step w d.moment y).0 }))) (sym q) k;
       }
 
       kind : Asked w d → rank d.what ≡ 2
@@ -271,12 +282,14 @@ module _ (p : Scenario) (bit : 1 ≤ p.setup.nominal) where
           whole Finish q (one_event c) (finish-one w.bus d.moment c (ap is_some r.runs)) refl tt
       go Finish q (inr k) = absurd (let z : rank d.what ≡ 0 = ap rank q in omega (arith, z, kind k))
       go (Return n) q k = whole (Return n) q (one_event c) (recover-one w.bus d.moment c n) refl tt
-      go Start q (inl k) = whole Start q (one_event c) (start-one w.bus d.moment c (start-wins w.bus w.now d.moment (k ∙ ap (λ x. Some (at x d.moment)) q))) refl tt
+      go Start q (inl k) = whole Start q (one_event c) (start-one w.bus d.moment c
+          (start-wins w.bus w.now d.moment (k ∙ ap (λ x. Some (at x d.moment)) q))) refl tt
       go Start q (inr k) = absurd (let z : rank d.what ≡ 3 = ap rank q in omega (arith, z, kind k))
       go Notices q k =
           let r = moment-renews w d.moment h in
           whole Notices q (record { events = c.events + 1; open_at = Some d.moment })
-          (counts-one c d.moment (moment_step w d.moment).1 (not-again w d c e q o) (subst (λ x. Some_lines (event_step w d.moment x).1) q (event-some p.stop w d e)) r.lines.lines)
+          (counts-one c d.moment (moment_step w d.moment).1 (not-again w d c e q o)
+              (subst (λ x. Some_lines (event_step w d.moment x).1) q (event-some p.stop w d e)) r.lines.lines)
           refl (record { none = r.none; ahead = rising-later d.moment w.now w.ahead i.ahead })
 
   run-counts : (k : ℕ) (w : World) (c : Count) → RunWorld p w → InOrder w → Closed c w
@@ -294,7 +307,8 @@ module _ (p : Scenario) (bit : 1 ≤ p.setup.nominal) where
       go (Some d) e on =
           let n = event-counts w d c e h i o in
           let r = on (world_behind w d).0 n.after (after-sound p w d e h) (stays-in-order p w d e i) n.closed in
-          let s : fold count_line c ((event_step w d.moment d.what).1 ++ head (machine p.stop) k (world_behind w d).0) ≡ fold count_line n.after (head (machine p.stop) k (world_behind w d).0) =
+          let s : fold count_line c ((event_step w d.moment d.what).1 ++ head (machine p.stop) k (world_behind w d).0) ≡ fold count_line
+              n.after (head (machine p.stop) k (world_behind w d).0) =
           fold-append count_line c (event_step w d.moment d.what).1 (head (machine p.stop) k (world_behind w d).0)
           ∙ ap (λ x. fold count_line x (head (machine p.stop) k (world_behind w d).0)) n.counted in
           let t = ap (λ (x : Count). x.events) s in

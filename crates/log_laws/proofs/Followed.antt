@@ -42,15 +42,18 @@ module _ (p : Scenario) where
   here : (m : Mirror) (lines : List Line) (b c : Bus) → b.setup ≡ p.setup → Follows m b.setup lines c → Follows m p.setup lines c
   here m lines b c e f = subst (λ s. Follows m s lines c) e f
 
-  take-goes : (m : Mirror) (now : ℕ) (q : Bus × List Line) (n : ℕ) → Goes m q.1 q.0 → Goes m (along (λ b node. take_inbox b now node) q n).1 (along (λ b node. take_inbox b now node) q n).0
+  take-goes : (m : Mirror) (now : ℕ) (q : Bus × List Line) (n : ℕ) → Goes m q.1 q.0
+      → Goes m (along (λ b node. take_inbox b now node) q n).1 (along (λ b node. take_inbox b now node) q n).0
   take-goes m now q n g = record {
     bus = steady p q.0 (take_inbox q.0 now n).0 g.bus (take-steady q.0 now n) (take_inbox-sound q.0 now n g.bus.sound);
     offered = take-offered q.0 now n g.offered;
     follows = follows-append m p.setup q.1 (take_inbox q.0 now n).1 q.0 (take_inbox q.0 now n).0 g.follows
-        (here (follow p.setup m q.1) (take_inbox q.0 now n).1 q.0 (take_inbox q.0 now n).0 g.bus.setup (take-follows q.0 (follow p.setup m q.1) now n g.bus.sound g.follows.agrees));
+        (here (follow p.setup m q.1) (take_inbox q.0 now n).1 q.0 (take_inbox q.0 now n).0 g.bus.setup
+            (take-follows q.0 (follow p.setup m q.1) now n g.bus.sound g.follows.agrees));
   }
 
-  action-goes : (m : Mirror) (q : Bus × List Line) (a : Action) → Acts p a → Goes m q.1 q.0 → Goes m (along action_step q a).1 (along action_step q a).0
+  action-goes : (m : Mirror) (q : Bus × List Line) (a : Action) → Acts p a → Goes m q.1 q.0
+      → Goes m (along action_step q a).1 (along action_step q a).0
   action-goes m q a acts g = record {
     bus = action_step-sound p q.0 a acts g.bus;
     offered = submit-offered q.0 a.moment a.node (submission_of (q.0).setup a.item) g.offered;
@@ -59,7 +62,8 @@ module _ (p : Scenario) where
         (submit-follows q.0 (follow p.setup m q.1) a.moment a.node g.bus.sound g.follows.agrees (submission_of (q.0).setup a.item)));
   }
 
-  pub event-goes : (w : World) (m : Mirror) (now : ℕ) (what : What) → (what ≡ Start → next_due w.bus w.now ≡ Some (at Start now)) → (what ≡ Finish → Ends w.bus now) → RunWorld p w → Offered w.bus → Agrees m w.bus
+  pub event-goes : (w : World) (m : Mirror) (now : ℕ) (what : What) → (what ≡ Start → next_due w.bus w.now ≡ Some (at Start now))
+      → (what ≡ Finish → Ends w.bus now) → RunWorld p w → Offered w.bus → Agrees m w.bus
       → Offered (event_step w now what).0 × Follows m p.setup (event_step w now what).1 (event_step w now what).0
   event-goes w m now Finish d n h f a = (
     finish-offered w.bus now f,
@@ -70,7 +74,8 @@ module _ (p : Scenario) where
     here m (recover w.bus now n).1 w.bus (recover w.bus now n).0 h.bus.setup (recover-follows w.bus m now n h.bus.sound a),
   )
   event-goes w m now Notices d n h f a =
-      let g = all-pairs (λ q. Goes m q.1 q.0) action_step (filter (λ a. a.moment == now) w.ahead) (fold (along (λ b node. take_inbox b now node)) (w.bus, []) (takers w.bus now))
+      let g = all-pairs (λ q. Goes m q.1 q.0) action_step (filter (λ a. a.moment == now) w.ahead)
+          (fold (along (λ b node. take_inbox b now node)) (w.bus, []) (takers w.bus now))
       (λ q x k i. action-goes m q x (each-All (Acts p) w.ahead x h.ahead (filter-among (λ a. a.moment == now) w.ahead x k).0) i)
       (all-pairs (λ q. Goes m q.1 q.0) (λ b node. take_inbox b now node) (takers w.bus now) (w.bus, [])
       (λ q n k i. take-goes m now q n i) (record { bus = h.bus; offered = f; follows = follows-none m p.setup w.bus a })) in
@@ -87,18 +92,22 @@ module _ (p : Scenario) where
   run-goes (suc k) w m h f a = go (next_event p.stop w) refl (λ v x i g b. run-goes k v x i g b)
     where
       go : (o : Option Due) → next_event p.stop w ≡ o
-          → ((v : World) (x : Mirror) → RunWorld p v → Offered v.bus → Agrees x v.bus → Follows x p.setup (head (machine p.stop) k v) (behind (machine p.stop) k v).bus)
-          → Follows m p.setup (then_from [] (λ x. x.1 ++ head (machine p.stop) k x.0) (option_map (world_behind w) o)) (then_from w (λ x. behind (machine p.stop) k x.0) (option_map (world_behind w) o)).bus
+          → ((v : World) (x : Mirror) → RunWorld p v → Offered v.bus → Agrees x v.bus
+              → Follows x p.setup (head (machine p.stop) k v) (behind (machine p.stop) k v).bus)
+          → Follows m p.setup (then_from [] (λ x. x.1 ++ head (machine p.stop) k x.0) (option_map (world_behind w) o))
+              (then_from w (λ x. behind (machine p.stop) k x.0) (option_map (world_behind w) o)).bus
       go None e on = follows-none m p.setup w.bus a
       go (Some d) e on =
           let g = event-goes w m d.moment d.what (own-start p w d e) (own-finish p.stop w d e) h f a in
-          follows-append m p.setup (event_step w d.moment d.what).1 (head (machine p.stop) k (world_behind w d).0) (event_step w d.moment d.what).0
+          follows-append m p.setup (event_step w d.moment d.what).1 (head (machine p.stop) k (world_behind w d).0)
+              (event_step w d.moment d.what).0
           (behind (machine p.stop) k (world_behind w d).0).bus g.1
           (on (world_behind w d).0 (follow p.setup m (event_step w d.moment d.what).1) (after-sound p w d e h) g.0 g.1.agrees)
 
   enter-agrees : (m : Mirror) (b : Bus) (n : ℕ) → Agrees m b → Agrees m (enter b n)
   enter-agrees m b n a = record {
-    nodes = a.nodes ∙ sym (map-unseen (one n (λ x. record x { live = true })) (one-unseen n (λ x. record x { live = true }) (λ x. refl)) b.members);
+    nodes = a.nodes ∙ sym (map-unseen (one n (λ x. record x { live = true })) (one-unseen n (λ x. record x { live = true }) (λ x. refl))
+        b.members);
     waits = a.waits;
     idle = a.idle;
     last = a.last;
@@ -119,20 +128,25 @@ module _ (p : Scenario) where
   }) tt
 
   -- the main theorem
-  pub mirror-agrees : (k : ℕ) → IsScenario p → Follows (new_mirror p.nodes) p.setup (head (machine p.stop) k (opening p)) (behind (machine p.stop) k (opening p)).bus
+  pub mirror-agrees : (k : ℕ) → IsScenario p → Follows (new_mirror p.nodes) p.setup (head (machine p.stop) k (opening p))
+      (behind (machine p.stop) k (opening p)).bus
   mirror-agrees k h = run-goes k (opening p) (new_mirror p.nodes) (opening-sound p h) opening-agrees.1 opening-agrees.0
 
   pub lines-lawful : (k : ℕ) → IsScenario p → Within p.setup (new_mirror p.nodes) (scenario_lines k p) []
   lines-lawful k h =
       let f = mirror-agrees k h in
-      within-append p.setup (new_mirror p.nodes) (head (machine p.stop) k (opening p)) (End (status (next_event p.stop (behind (machine p.stop) k (opening p)))) (behind (machine p.stop) k (opening p)).events ∷ []) []
-      (f.lawful (End (status (next_event p.stop (behind (machine p.stop) k (opening p)))) (behind (machine p.stop) k (opening p)).events ∷ []) (record { loss = refl; hurt = refl }))
+      within-append p.setup (new_mirror p.nodes) (head (machine p.stop) k (opening p))
+          (End (status (next_event p.stop (behind (machine p.stop) k (opening p)))) (behind (machine p.stop) k (opening p)).events ∷ []) []
+      (f.lawful (End (status (next_event p.stop (behind (machine p.stop) k (opening p)))) (behind (machine p.stop) k (opening p)).events
+          ∷ []) (record { loss = refl; hurt = refl }))
       (refl, tt)
 
   pub lines-open : (k : ℕ) → IsScenario p → Opens (scenario_lines k p)
-  lines-open k h = (mirror-agrees k h).opens (End (status (next_event p.stop (behind (machine p.stop) k (opening p)))) (behind (machine p.stop) k (opening p)).events ∷ []) (record { loss = refl; hurt = refl })
+  lines-open k h = (mirror-agrees k h).opens (End (status (next_event p.stop (behind (machine p.stop) k (opening p))))
+      (behind (machine p.stop) k (opening p)).events ∷ []) (record { loss = refl; hurt = refl })
 
 -- what holds at one line
-pub lawful-at : (s : Setup) (m : Mirror) (before : List Line) (line : Line) (rest : List Line) → Within s m (before ++ line ∷ rest) [] → Lawful s (follow s m before) line rest
+pub lawful-at : (s : Setup) (m : Mirror) (before : List Line) (line : Line) (rest : List Line) → Within s m (before ++ line ∷ rest) []
+    → Lawful s (follow s m before) line rest
 lawful-at s m [] line rest h = subst (λ l. Lawful s m line l) (append-nil rest) h.0
 lawful-at s m (x ∷ before) line rest h = lawful-at s (Rattle.log_laws.specs.Mirror.mirror_after s m x) before line rest h.1

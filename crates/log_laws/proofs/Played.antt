@@ -69,11 +69,15 @@ module _ (p : Scenario) where
       taken : Bus × List Line
       taken = fold (along (λ b node. take_inbox b now node)) (w.bus, []) (takers w.bus now)
 
-  event_step-sound : (w : World) (now : ℕ) (what : What) → (what ≡ Start → next_due w.bus w.now ≡ Some (at Start now)) → RunWorld p w → RunBus p (event_step w now what).0
-  event_step-sound w now Finish d h = steady p w.bus (finish w.bus now).0 h.bus (finish-steady w.bus now) (finish-sound w.bus now (h.bus).sound)
-  event_step-sound w now (Return n) d h = steady p w.bus (recover w.bus now n).0 h.bus (recover-steady w.bus now n) (recover-sound w.bus now n (h.bus).sound)
+  event_step-sound : (w : World) (now : ℕ) (what : What) → (what ≡ Start → next_due w.bus w.now ≡ Some (at Start now)) → RunWorld p w
+      → RunBus p (event_step w now what).0
+  event_step-sound w now Finish d h = steady p w.bus (finish w.bus now).0 h.bus (finish-steady w.bus now)
+      (finish-sound w.bus now (h.bus).sound)
+  event_step-sound w now (Return n) d h = steady p w.bus (recover w.bus now n).0 h.bus (recover-steady w.bus now n)
+      (recover-sound w.bus now n (h.bus).sound)
   event_step-sound w now Notices d h = lines-sound w now h
-  event_step-sound w now Start d h = steady p w.bus (start w.bus now).0 h.bus (start-steady w.bus now) (start-sound w.bus w.now now (h.bus).sound (d refl))
+  event_step-sound w now Start d h = steady p w.bus (start w.bus now).0 h.bus (start-steady w.bus now)
+      (start-sound w.bus w.now now (h.bus).sound (d refl))
 
   later_part-action_step : (w : World) (now : ℕ) (what : What) → All (Acts p) w.ahead → All (Acts p) (left_ahead w now what)
   later_part-action_step w now Finish h = h
@@ -142,7 +146,8 @@ module _ (p : Scenario) where
     setup = h.setup;
     nodes = nodes-map (one n (λ m. record m { live = true })) keeps b.members ∙ h.nodes;
     live = λ m a s. let r = map-among (one n (λ x. record x { live = true })) b.members m a in
-        subst (λ (x : Member). x.live ≡ true) r.2 (by r.0 r.1 (r.0).live ((r.0).node == n) refl refl (subst (λ k. Among (n ∷ seen) k) (sym (ap (λ (x : Member). x.node) r.2) ∙ keeps r.0) s));
+        subst (λ (x : Member). x.live ≡ true) r.2 (by r.0 r.1 (r.0).live ((r.0).node == n) refl refl
+            (subst (λ k. Among (n ∷ seen) k) (sym (ap (λ (x : Member). x.node) r.2) ∙ keeps r.0) s));
   }
     where
       keeps : KeepsNodes (one n (λ m. record m { live = true }))
@@ -152,7 +157,8 @@ module _ (p : Scenario) where
           go true = refl
           go false = refl
 
-      by : (m : Member) → Among b.members m → (u t : Bool) → m.live ≡ u → (m.node == n) ≡ t → Among (n ∷ seen) m.node → (if t then record m { live = true } else m).live ≡ true
+      by : (m : Member) → Among b.members m → (u t : Bool) → m.live ≡ u → (m.node == n) ≡ t → Among (n ∷ seen) m.node
+          → (if t then record m { live = true } else m).live ≡ true
       by m a u true e f s = refl
       by m a u false e f (inl s) = absurd (both_ways (m.node == n) f (eq-eqb m.node n (sym s)))
       by m a u false e f (inr s) = h.live m a s

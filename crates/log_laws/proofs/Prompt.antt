@@ -33,7 +33,8 @@ use Rattle.log_laws.proofs.Played.{RunBus, RunWorld, steady, action_step-sound, 
 use Rattle.bus_sound.proofs.Steady.{take-steady}
 use Rattle.log_laws.proofs.Followed.{event-goes, opening-agrees, all-pairs}
 
-flat-nothing : {X Y : Type 0} (f : X → List Y) (p : X → Bool) (xs : List X) → ((x : X) → Among xs x → p x ≡ true → f x ≡ []) → flat_map f (filter p xs) ≡ []
+flat-nothing : {X Y : Type 0} (f : X → List Y) (p : X → Bool) (xs : List X) → ((x : X) → Among xs x → p x ≡ true → f x ≡ [])
+    → flat_map f (filter p xs) ≡ []
 flat-nothing f p [] h = refl
 flat-nothing {X} {Y} f p (x ∷ xs) h = go (p x) refl (flat-nothing f p xs (λ y a. h y (inr a)))
   where
@@ -48,10 +49,12 @@ module _ (b : Bus) (m : Mirror) (since now : ℕ) (a : Agrees m b) (live : (x : 
     where
       none : (l : List Request) → list_any (λ r. r.node == n) l ≡ false → filter (λ r. r.node == n) l ≡ []
       none [] k = refl
-      none (r ∷ l) k = let h : (r.node == n) ≡ false = false_from_ne_true (r.node == n) (λ t. both_ways (list_any (λ r. r.node == n) (r ∷ l)) k (any_from (λ r. r.node == n) (r ∷ l) r (inl refl) t)) in
+      none (r ∷ l) k = let h : (r.node == n) ≡ false = false_from_ne_true (r.node == n)
+          (λ t. both_ways (list_any (λ r. r.node == n) (r ∷ l)) k (any_from (λ r. r.node == n) (r ∷ l) r (inl refl) t)) in
           rw h (none l (rw h at k))
 
-  nothing-before : (earlier : ℕ) → since ≤ earlier → earlier < now → (x : Member) → Among b.members x → able b.setup m earlier (seen x) ≡ true → of_node m.waits x.node ≡ []
+  nothing-before : (earlier : ℕ) → since ≤ earlier → earlier < now → (x : Member) → Among b.members x
+      → able b.setup m earlier (seen x) ≡ true → of_node m.waits x.node ≡ []
   nothing-before earlier from before x k t = go (has_request b.requests x.node) refl
     where
       both : (Rattle.log_laws.specs.Mirror.takes_part (seen x) ≡ true) × (nat_le (ready_from b.setup m (seen x)) earlier ≡ true)
@@ -74,7 +77,8 @@ module _ (b : Bus) (m : Mirror) (since now : ℕ) (a : Agrees m b) (live : (x : 
   none-able earlier from before = ap (λ xs. flat_map (λ (x : Seen). of_node m.waits x.node) (filter (able b.setup m earlier) xs)) a.nodes
       ∙ flat-nothing (λ (x : Seen). of_node m.waits x.node) (able b.setup m earlier) (map seen b.members) (λ y k t.
       let r = map-among seen b.members y k in
-      ap (λ (z : Seen). of_node m.waits z.node) (sym r.2) ∙ nothing-before earlier from before r.0 r.1 (ap (able b.setup m earlier) r.2 ∙ t))
+      ap (λ (z : Seen). of_node m.waits z.node) (sym r.2) ∙ nothing-before earlier from before r.0 r.1
+          (ap (able b.setup m earlier) r.2 ∙ t))
 
 -- prompt starts along lines
 abbrev PromptTold : Setup → Mirror → ℕ → ℕ → Told → Type 0
@@ -103,9 +107,11 @@ quiet-line s m last now (End status events) a n = tt
 
 quiet-prompts : (s : Setup) (now : ℕ) (lines : List Line) (m : Mirror) (last : ℕ) → Quiet s now lines → Prompts s m last lines
 quiet-prompts s now [] m last q = tt
-quiet-prompts s now (line ∷ lines) m last q = (quiet-line s m last now line q.0.0 q.0.1, quiet-prompts s now lines (mirror_after s m line) (moment_after last line) q.1)
+quiet-prompts s now (line ∷ lines) m last q = (quiet-line s m last now line q.0.0 q.0.1, quiet-prompts s now lines (mirror_after s m line)
+    (moment_after last line) q.1)
 
-prompts-append : (s : Setup) (xs ys : List Line) (m : Mirror) (last : ℕ) → Prompts s m last xs → Prompts s (follow s m xs) (fold moment_after last xs) ys → Prompts s m last (xs ++ ys)
+prompts-append : (s : Setup) (xs ys : List Line) (m : Mirror) (last : ℕ) → Prompts s m last xs
+    → Prompts s (follow s m xs) (fold moment_after last xs) ys → Prompts s m last (xs ++ ys)
 prompts-append s [] ys m last h k = k
 prompts-append s (x ∷ xs) ys m last h k = (h.0, prompts-append s xs ys (mirror_after s m x) (moment_after last x) h.1 k)
 
@@ -144,21 +150,25 @@ setup-of : (p : Scenario) (b : Bus) → RunBus p b → (now : ℕ) (lines : List
 setup-of p b r now lines q = subst (λ s. Quiet s now lines) r.setup q
 
 module _ (p : Scenario) where
-  start-event : (w : World) (m : Mirror) (now : ℕ) → next_due w.bus w.now ≡ Some (at Start now) → w.now ≤ now → RunWorld p w → Agrees m w.bus → EventLines p.setup m w.now now (start w.bus now).1
+  start-event : (w : World) (m : Mirror) (now : ℕ) → next_due w.bus w.now ≡ Some (at Start now) → w.now ≤ now → RunWorld p w
+      → Agrees m w.bus → EventLines p.setup m w.now now (start w.bus now).1
   unfolding start
   start-event w m now d later h a = go (winner w.bus now)
     where
       go : (o : Option Request) → EventLines p.setup m w.now now (start_with w.bus now o).1
       go None = record { prompts = tt; at = tt }
       go (Some r) =
-          let rest = setup-of p w.bus h.bus now (map (λ x. On now w.bus.setup.number x.node (loser_told w.bus x)) (losers w.bus now r.node)) (losses-quiet w.bus now (losers w.bus now r.node)) in
+          let rest = setup-of p w.bus h.bus now (map (λ x. On now w.bus.setup.number x.node (loser_told w.bus x)) (losers w.bus now r.node))
+              (losses-quiet w.bus now (losers w.bus now r.node)) in
           record {
             prompts = (
-              subst (λ s. IsPrompt s m w.now now) h.bus.setup (record { later = later; not_before = none-able w.bus m w.now now a h.bus.live (start-least w.bus w.now now d) }),
+              subst (λ s. IsPrompt s m w.now now) h.bus.setup (record { later = later; not_before = none-able w.bus m w.now now a h.bus.live
+                  (start-least w.bus w.now now d) }),
               quiet-prompts p.setup now (map (λ x. On now w.bus.setup.number x.node (loser_told w.bus x)) (losers w.bus now r.node))
                   (mirror_after p.setup m (On now w.bus.setup.number r.node (log.Start r.frame))) now rest,
             );
-            at = ((refl, ap (λ (s : Setup). s.number) h.bus.setup), quiet-at p.setup now (map (λ x. On now w.bus.setup.number x.node (loser_told w.bus x)) (losers w.bus now r.node)) rest);
+            at = ((refl, ap (λ (s : Setup). s.number) h.bus.setup), quiet-at p.setup now
+                (map (λ x. On now w.bus.setup.number x.node (loser_told w.bus x)) (losers w.bus now r.node)) rest);
           }
 
   -- a bus of the scenario and quiet lines
@@ -167,7 +177,8 @@ module _ (p : Scenario) where
     lines : Quiet p.setup now q.1
 
   moment-calm : (w : World) (now : ℕ) → RunWorld p w → Quiet p.setup now (moment_step w now).1
-  moment-calm w now h = (all-pairs (Calm now) action_step (filter (λ a. a.moment == now) w.ahead) (fold (along (λ b node. take_inbox b now node)) (w.bus, []) (takers w.bus now))
+  moment-calm w now h = (all-pairs (Calm now) action_step (filter (λ a. a.moment == now) w.ahead)
+      (fold (along (λ b node. take_inbox b now node)) (w.bus, []) (takers w.bus now))
       (λ q x k c.
       let f = filter-among (λ (a : Action). a.moment == now) w.ahead x k in
       let there : x.moment ≡ now = eqb-true x.moment now f.1 in
@@ -180,20 +191,25 @@ module _ (p : Scenario) where
       (all-pairs (Calm now) (λ b node. take_inbox b now node) (takers w.bus now) (w.bus, [])
       (λ q n k c. record {
         bus = steady p q.0 (take_inbox q.0 now n).0 c.bus (take-steady q.0 now n) (take_inbox-sound q.0 now n c.bus.sound);
-        lines = quiet-append p.setup now q.1 (take_inbox q.0 now n).1 c.lines (setup-of p q.0 c.bus now (take_inbox q.0 now n).1 (take-quiet q.0 now n));
+        lines = quiet-append p.setup now q.1 (take_inbox q.0 now n).1 c.lines
+            (setup-of p q.0 c.bus now (take_inbox q.0 now n).1 (take-quiet q.0 now n));
       })
       (record { bus = h.bus; lines = tt }))).lines
 
-  pub event-lines : (w : World) (m : Mirror) (now : ℕ) (what : What) → (what ≡ Start → next_due w.bus w.now ≡ Some (at Start now)) → RunWorld p w → Agrees m w.bus
+  pub event-lines : (w : World) (m : Mirror) (now : ℕ) (what : What) → (what ≡ Start → next_due w.bus w.now ≡ Some (at Start now))
+      → RunWorld p w → Agrees m w.bus
       → EventLines p.setup m w.now now (event_step w now what).1
-  event-lines w m now Finish d h a = quiet-event p.setup m w.now now (finish w.bus now).1 (setup-of p w.bus h.bus now (finish w.bus now).1 (finish-quiet w.bus now))
-  event-lines w m now (Return n) d h a = quiet-event p.setup m w.now now (recover w.bus now n).1 (setup-of p w.bus h.bus now (recover w.bus now n).1 (recover-quiet w.bus now n))
+  event-lines w m now Finish d h a = quiet-event p.setup m w.now now (finish w.bus now).1
+      (setup-of p w.bus h.bus now (finish w.bus now).1 (finish-quiet w.bus now))
+  event-lines w m now (Return n) d h a = quiet-event p.setup m w.now now (recover w.bus now n).1
+      (setup-of p w.bus h.bus now (recover w.bus now n).1 (recover-quiet w.bus now n))
   event-lines w m now Notices d h a = quiet-event p.setup m w.now now (moment_step w now).1 (moment-calm w now h)
   event-lines w m now Start d h a =
       let i = start-due w.bus w.now now (d refl) in
       start-event w m now (d refl) (omega (arith, i.moment)) h a
 
-  run-prompts : (k : ℕ) (w : World) (m : Mirror) → RunWorld p w → Offered w.bus → Agrees m w.bus → Prompts p.setup m w.now (head (machine p.stop) k w)
+  run-prompts : (k : ℕ) (w : World) (m : Mirror) → RunWorld p w → Offered w.bus → Agrees m w.bus
+      → Prompts p.setup m w.now (head (machine p.stop) k w)
   unfolding head
   run-prompts zero w m h f a = tt
   run-prompts (suc k) w m h f a = go (next_event p.stop w) refl (λ v x i g b. run-prompts k v x i g b)
@@ -208,14 +224,18 @@ module _ (p : Scenario) where
           let there : fold moment_after w.now (event_step w d.moment d.what).1 ≡ d.moment =
           comes-at p.setup d.moment w.now (event_step w d.moment d.what).1 l.at (event-some p.stop w d e) in
           prompts-append p.setup (event_step w d.moment d.what).1 (head (machine p.stop) k (world_behind w d).0) m w.now l.prompts
-          (subst (λ n. Prompts p.setup (follow p.setup m (event_step w d.moment d.what).1) n (head (machine p.stop) k (world_behind w d).0)) (sym there)
+          (subst (λ n. Prompts p.setup (follow p.setup m (event_step w d.moment d.what).1) n (head (machine p.stop) k (world_behind w d).0))
+              (sym there)
           (on (world_behind w d).0 (follow p.setup m (event_step w d.moment d.what).1) (after-sound p w d e h) g.0 g.1.agrees))
 
   lines-prompt : (k : ℕ) → IsScenario p → Prompts p.setup (new_mirror p.nodes) 0 (scenario_lines k p)
-  lines-prompt k h = prompts-append p.setup (head (machine p.stop) k (opening p)) (End (status (next_event p.stop (behind (machine p.stop) k (opening p)))) (behind (machine p.stop) k (opening p)).events ∷ [])
-      (new_mirror p.nodes) 0 (run-prompts k (opening p) (new_mirror p.nodes) (opening-sound p h) (opening-agrees p).1 (opening-agrees p).0) (tt, tt)
+  lines-prompt k h = prompts-append p.setup (head (machine p.stop) k (opening p))
+      (End (status (next_event p.stop (behind (machine p.stop) k (opening p)))) (behind (machine p.stop) k (opening p)).events ∷ [])
+      (new_mirror p.nodes) 0 (run-prompts k (opening p) (new_mirror p.nodes) (opening-sound p h) (opening-agrees p).1 (opening-agrees p).0)
+          (tt, tt)
 
-prompt-at : (s : Setup) (m : Mirror) (last : ℕ) (before : List Line) (line : Line) (rest : List Line) → Prompts s m last (before ++ line ∷ rest)
+prompt-at : (s : Setup) (m : Mirror) (last : ℕ) (before : List Line) (line : Line) (rest : List Line)
+    → Prompts s m last (before ++ line ∷ rest)
     → PromptLine s (follow s m before) (fold moment_after last before) line
 prompt-at s m last [] line rest h = h.0
 prompt-at s m last (x ∷ before) line rest h = prompt-at s (mirror_after s m x) (moment_after last x) before line rest h.1

@@ -33,11 +33,15 @@ use Rattle.machine_steps.proofs.States.{Matches, Same}
 nests : (c : Code) (room around : ℕ) (text : List ℕ) → around + room ≡ most_nested → SpellsCode room c text → Nests around c
 nests Nil room around text e s = tt
 nests (Leaf i rest) room around text e s = nests rest room around s.1 e s.4
-nests (InBlock r inner rest) room around text e s = (omega (arith, e, s.3), nests inner (room - 1) (suc around) s.0 (omega (arith, e, s.3)) s.4, nests rest room around s.1 e s.5)
-nests (InLoop r inner rest) room around text e s = (omega (arith, e, s.3), nests inner (room - 1) (suc around) s.0 (omega (arith, e, s.3)) s.4, nests rest room around s.1 e s.5)
-nests (IfOnly r inner rest) room around text e s = (omega (arith, e, s.3), nests inner (room - 1) (suc around) s.0 (omega (arith, e, s.3)) s.4, nests rest room around s.1 e s.5)
+nests (InBlock r inner rest) room around text e s = (omega (arith, e, s.3), nests inner (room - 1) (suc around) s.0 (omega (arith, e, s.3))
+    s.4, nests rest room around s.1 e s.5)
+nests (InLoop r inner rest) room around text e s = (omega (arith, e, s.3), nests inner (room - 1) (suc around) s.0 (omega (arith, e, s.3))
+    s.4, nests rest room around s.1 e s.5)
+nests (IfOnly r inner rest) room around text e s = (omega (arith, e, s.3), nests inner (room - 1) (suc around) s.0 (omega (arith, e, s.3))
+    s.4, nests rest room around s.1 e s.5)
 nests (IfElse r first second rest) room around text e s =
-    (omega (arith, e, s.4), nests first (room - 1) (suc around) s.0 (omega (arith, e, s.4)) s.5, nests second (room - 1) (suc around) s.1 (omega (arith, e, s.4)) s.6, nests rest room around s.2 e s.7)
+    (omega (arith, e, s.4), nests first (room - 1) (suc around) s.0 (omega (arith, e, s.4)) s.5, nests second (room - 1) (suc around) s.1
+        (omega (arith, e, s.4)) s.6, nests rest room around s.2 e s.7)
 
 body_fits : (f : NestedFunc) (text : List ℕ) → SpellsBody f text → FuncFits f
 body_fits f text s =
@@ -64,16 +68,20 @@ module _ (m : NestedModule) (h : HasLimits m) where
   put_keeps s (Types types) text c = record { funcs = h.funcs; tables = h.tables; memories = h.memories }
   put_keeps s Imports text c = h
   put_keeps s (Funcs indices) text c = h
-  put_keeps s (Tables tables) text c = record { funcs = h.funcs; tables = each_fits SpellsTable TableFits table_fits tables c.1 c.4; memories = h.memories }
-  put_keeps s (Memories memories) text c = record { funcs = h.funcs; tables = h.tables; memories = each_fits SpellsMemory MemoryFits memory_fits memories c.1 c.4 }
+  put_keeps s (Tables tables) text c = record { funcs = h.funcs; tables = each_fits SpellsTable TableFits table_fits tables c.1 c.4;
+      memories = h.memories }
+  put_keeps s (Memories memories) text c = record { funcs = h.funcs; tables = h.tables; memories = each_fits SpellsMemory MemoryFits
+      memory_fits memories c.1 c.4 }
   put_keeps s (Globals globals) text c = record { funcs = h.funcs; tables = h.tables; memories = h.memories }
   put_keeps s (Exports exports) text c = record { funcs = h.funcs; tables = h.tables; memories = h.memories }
   put_keeps s (Start func) text c = record { funcs = h.funcs; tables = h.tables; memories = h.memories }
   put_keeps s (Elements elements) text c = record { funcs = h.funcs; tables = h.tables; memories = h.memories }
-  put_keeps s (Codes funcs) text c = record { funcs = each_fits SpellsBody FuncFits body_fits funcs c.1.1 c.1.4; tables = h.tables; memories = h.memories }
+  put_keeps s (Codes funcs) text c = record { funcs = each_fits SpellsBody FuncFits body_fits funcs c.1.1 c.1.4; tables = h.tables; memories
+      = h.memories }
   put_keeps s (Datas datas) text c = record { funcs = h.funcs; tables = h.tables; memories = h.memories }
 
-sections_keep : (xs : List Section) (s : Before) (m : NestedModule) (text : List ℕ) → HasLimits m → SpellsSections s xs text → HasLimits (put_all xs m)
+sections_keep : (xs : List Section) (s : Before) (m : NestedModule) (text : List ℕ) → HasLimits m → SpellsSections s xs text
+    → HasLimits (put_all xs m)
 sections_keep [] s m text h t = h
 sections_keep (x ∷ xs) s m text h t =
     let section = t.3 in
@@ -83,7 +91,8 @@ sections_keep (x ∷ xs) s m text h t =
 pub limits_are : (m : NestedModule) (bytes : List ℕ) → SpellsModule m bytes → HasLimits m
 limits_are m bytes s =
     let rest = s.1.2 in
-    subst HasLimits (sym rest.1) (sections_keep rest.0 (record { last = 0; indices = [] }) empty s.1.0 (record { funcs = tt; tables = tt; memories = tt }) rest.3)
+    subst HasLimits (sym rest.1) (sections_keep rest.0 (record { last = 0; indices = [] }) empty s.1.0
+        (record { funcs = tt; tables = tt; memories = tt }) rest.3)
 
 -- ---- the two forms
 
@@ -108,11 +117,13 @@ pub record HasFunction (m : NestedModule) (i : ℕ) (fn : Function) : Type 0 whe
 pub function_is : (m : NestedModule) (i : ℕ) (fn : Function) → function_at m i ≡ Some fn → HasFunction m i fn
 function_is m i fn e = by_func (slice_get m.funcs i) refl e
   where
-    by_type : (f : NestedFunc) → slice_get m.funcs i ≡ Some f → (o : Option FuncType) → slice_get m.types f.ty ≡ o → option_map (typed_function f) o ≡ Some fn → HasFunction m i fn
+    by_type : (f : NestedFunc) → slice_get m.funcs i ≡ Some f → (o : Option FuncType) → slice_get m.types f.ty ≡ o
+        → option_map (typed_function f) o ≡ Some fn → HasFunction m i fn
     by_type f is None has e = cc
     by_type f is (Some t) has e = record { f = f; t = t; is = is; has = has; whole = some_is (typed_function f t) fn e }
 
-    by_func : (o : Option NestedFunc) → slice_get m.funcs i ≡ o → option_and_then (λ (f : NestedFunc). option_map (typed_function f) (slice_get m.types f.ty)) o ≡ Some fn → HasFunction m i fn
+    by_func : (o : Option NestedFunc) → slice_get m.funcs i ≡ o → option_and_then
+        (λ (f : NestedFunc). option_map (typed_function f) (slice_get m.types f.ty)) o ≡ Some fn → HasFunction m i fn
     by_func None is e = cc
     by_func (Some f) is e = by_type f is (slice_get m.types f.ty) refl e
 
@@ -148,7 +159,8 @@ few_results : (m : NestedModule) → IsValid m → (i : ℕ) (t : FuncType) → 
 unfolding validity
 few_results m valid i t at =
     let types = passed (each rule.TypeResult has_one_result m.types) _ tt valid in
-    leb-true (length t.results) 1 (each_passes has_one_result 0 m.types (none_fails rule.TypeResult (first_failing has_one_result 0 m.types) types.it types.is) i t at)
+    leb-true (length t.results) 1 (each_passes has_one_result 0 m.types
+        (none_fails rule.TypeResult (first_failing has_one_result 0 m.types) types.it types.is) i t at)
 
 -- the nested form of a flat function that is there
 pub record Unflat (fs : List NestedFunc) (i : ℕ) (f : Func) : Type 0 where
@@ -195,8 +207,10 @@ code_has (IfElse r first second rest) p s =
     let q = p + 1 + size first in
     let e = q + 1 + size second in (
       tt,
-      all_append (flat_code first (p + 1)) (Else e ∷ (flat_code second (q + 1) ++ End ∷ flat_code rest (e + 1))) (code_has first (p + 1) s.0)
-          (tt, all_append (flat_code second (q + 1)) (End ∷ flat_code rest (e + 1)) (code_has second (q + 1) s.1) (tt, code_has rest (e + 1) s.2)),
+      all_append (flat_code first (p + 1)) (Else e ∷ (flat_code second (q + 1) ++ End ∷ flat_code rest (e + 1)))
+          (code_has first (p + 1) s.0)
+          (tt, all_append (flat_code second (q + 1)) (End ∷ flat_code rest (e + 1)) (code_has second (q + 1) s.1)
+              (tt, code_has rest (e + 1) s.2)),
     )
 
 body_has : (c : Code) → HasSpellableLeaves c → AllByRecursion IsEncodable (flat_body c)
@@ -206,7 +220,8 @@ pub ready_is : (fm : Module) (n : NestedModule) → fm ≡ flat_module n → Has
 ready_is fm n flat h parts valid = record {
   encodable = λ i f e p x at.
       let u = unflat n.funcs i f (subst (λ (x : Module). slice_get x.funcs i ≡ Some f) flat e) in
-      let leaves = all_at (λ (f : NestedFunc). HasSpellableLeaves f.code) n.funcs i u.nested (recursion_from_All (λ (f : NestedFunc). HasSpellableLeaves f.code) n.funcs parts.funcs) u.at in
+      let leaves = all_at (λ (f : NestedFunc). HasSpellableLeaves f.code) n.funcs i u.nested
+          (recursion_from_All (λ (f : NestedFunc). HasSpellableLeaves f.code) n.funcs parts.funcs) u.at in
       all_at IsEncodable f.body p x (subst (λ (f : Func). AllByRecursion IsEncodable f.body) u.is (body_has u.nested.code leaves)) at;
   locals = λ i f e.
       let u = unflat n.funcs i f (subst (λ (x : Module). slice_get x.funcs i ≡ Some f) flat e) in

@@ -42,7 +42,8 @@ first_is (suc n) (x ∷ ns) p e =
 pub record Taken (ts : List ValType) (vs : List Value) (p : Split Value) : Type 0 where
   pub whole : vs ≡ p.top ++ p.below
   pub count : length p.top ≡ length ts
-  pub over : (low : List ℕ) → split_first (length ts) (all_bits vs ++ low) ≡ Some (record { top = all_bits p.top; below = all_bits p.below ++ low })
+  pub over : (low : List ℕ) → split_first (length ts) (all_bits vs ++ low) ≡ Some
+      (record { top = all_bits p.top; below = all_bits p.below ++ low })
 
 pub taken : (ts : List ValType) (vs : List Value) (p : Split Value) → split ts vs ≡ Some p → Taken ts vs p
 taken [] vs p e =

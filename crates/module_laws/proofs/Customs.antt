@@ -37,22 +37,27 @@ regroup xs ys = append_assoc xs (Custom ∷ []) ys
 
 -- what stands behind a front is sections
 parted : (m : NestedModule) (xs : List Section) (front rest : List ℕ) → SpellsSections start xs front → SpellsRest m (front ++ rest)
-    → (ys : List Section) × (m ≡ module_of (xs ++ ys)) × (length m.funcs ≡ length (declared (xs ++ ys) [])) × SpellsSections (after_all xs start) ys rest
+    → (ys : List Section) × (m ≡ module_of (xs ++ ys)) × (length m.funcs ≡ length (declared (xs ++ ys) [])) × SpellsSections
+        (after_all xs start) ys rest
 parted m xs front rest f t =
     let b = front ++ rest in
     let whole : Here b 0 (front ++ rest) (length b) = whole_here b in
     let at = 0 + length front in
-    let r = goes_on b xs t.0 start 0 at (length b) front b f (here_first b 0 (length b) front rest whole) t.3 whole (omega (arith, length-append front rest)) in
+    let r = goes_on b xs t.0 start 0 at (length b) front b f (here_first b 0 (length b) front rest whole) t.3 whole
+        (omega (arith, length-append front rest)) in
     let here = here_second b 0 (length b) front rest whole in
     let same : r.text ≡ rest = one_text b at (length b) r.text rest r.here here in
-    (r.others, t.1 ∙ ap module_of r.whole, t.2 ∙ ap (λ l. length (declared l [])) r.whole, subst (SpellsSections (after_all xs start) r.others) same r.spelled)
+    (r.others, t.1 ∙ ap module_of r.whole, t.2 ∙ ap (λ l. length (declared l [])) r.whole, subst
+        (SpellsSections (after_all xs start) r.others) same r.spelled)
 
 -- a front, and sections behind it
-joined : (m : NestedModule) (xs ys : List Section) (front rest : List ℕ) → SpellsSections start xs front → SpellsSections (after_all xs start) ys rest
+joined : (m : NestedModule) (xs ys : List Section) (front rest : List ℕ) → SpellsSections start xs front
+    → SpellsSections (after_all xs start) ys rest
     → m ≡ module_of (xs ++ ys) → length m.funcs ≡ length (declared (xs ++ ys) []) → SpellsRest m (front ++ rest)
 joined m xs ys front rest f t is counts = (xs ++ ys, is, counts, spelled_both xs ys start front rest f t)
 
-module _ (m : NestedModule) (xs : List Section) (front custom rest : List ℕ) (f : SpellsSections start xs front) (c : SpellsSection start Custom custom) where
+module _ (m : NestedModule) (xs : List Section) (front custom rest : List ℕ) (f : SpellsSections start xs front)
+    (c : SpellsSection start Custom custom) where
   -- the custom section belongs to the front
   longer : SpellsSections start (xs ++ Custom ∷ []) (front ++ custom)
   longer = spelled_both xs (Custom ∷ []) start front custom f (custom, [], sym (append-nil custom), c, refl)
@@ -78,10 +83,12 @@ module _ (m : NestedModule) (xs : List Section) (front custom rest : List ℕ) (
       (p.2 ∙ ap (λ l. length (declared l [])) (regroup xs ys) ∙ ap length (same_declared xs ys))
 
 -- the same behind a header
-behind_header : (m : NestedModule) (front text rest : List ℕ) → front ≡ magic ++ (version ++ text) → length (front ++ rest) ≤ most_bytes → SpellsRest m (text ++ rest) → SpellsModule m (front ++ rest)
+behind_header : (m : NestedModule) (front text rest : List ℕ) → front ≡ magic ++ (version ++ text) → length (front ++ rest) ≤ most_bytes
+    → SpellsRest m (text ++ rest) → SpellsModule m (front ++ rest)
 behind_header m front text rest is small t = (small, (text ++ rest, ap (λ l. l ++ rest) is, t))
 
-rest_of : (m : NestedModule) (front text rest : List ℕ) → front ≡ magic ++ (version ++ text) → SpellsModule m (front ++ rest) → SpellsRest m (text ++ rest)
+rest_of : (m : NestedModule) (front text rest : List ℕ) → front ≡ magic ++ (version ++ text) → SpellsModule m (front ++ rest)
+    → SpellsRest m (text ++ rest)
 rest_of m front text rest is s =
     let t = s.1 in
     let same : t.0 ≡ text ++ rest = ap (drop 8) (sym t.1 ∙ ap (λ l. l ++ rest) is) in
@@ -94,7 +101,9 @@ ignored m front custom rest f c small = (forth, back)
     fits = omega (arith, small, length-append front rest, length-append front (custom ++ rest), length-append custom rest)
 
     forth : SpellsModule m (front ++ rest) → SpellsModule m (front ++ (custom ++ rest))
-    forth s = behind_header m front f.rest (custom ++ rest) f.whole small (more m f.sections f.rest custom rest f.spelled c (rest_of m front f.rest rest f.whole s))
+    forth s = behind_header m front f.rest (custom ++ rest) f.whole small
+        (more m f.sections f.rest custom rest f.spelled c (rest_of m front f.rest rest f.whole s))
 
     back : SpellsModule m (front ++ (custom ++ rest)) → SpellsModule m (front ++ rest)
-    back s = behind_header m front f.rest rest f.whole fits (fewer m f.sections f.rest custom rest f.spelled c (rest_of m front f.rest (custom ++ rest) f.whole s))
+    back s = behind_header m front f.rest rest f.whole fits (fewer m f.sections f.rest custom rest f.spelled c
+        (rest_of m front f.rest (custom ++ rest) f.whole s))

@@ -26,7 +26,8 @@ clash r e x fails gives = absurd cc
 
 -- ---- sections
 
-module _ (b : List ℕ) (s : Before) (at : ℕ) (x y : Section) (n m : ℕ) (t u : List ℕ) (sx : SpellsSection s x t) (hx : Here b at t n) (sy : SpellsSection s y u) (hy : Here b at u m) where
+module _ (b : List ℕ) (s : Before) (at : ℕ) (x y : Section) (n m : ℕ) (t u : List ℕ) (sx : SpellsSection s x t) (hx : Here b at t n)
+    (sy : SpellsSection s y u) (hy : Here b at u m) where
   alike : (let one : Section × ℕ = (x, n) in let two : Section × ℕ = (y, m) in one ≡ two)
   alike = ok_is (x, n) (y, m) (sym (section_again tell s b at n x t sx hx) ∙ section_again tell s b at m y u sy hy)
 
@@ -48,7 +49,8 @@ pub record GoesOn (b : List ℕ) (xs zs : List Section) (s : Before) (at end : �
   pub spelled : SpellsSections (after_all xs s) others text
   pub here : Here b at text end
 
-pub goes_on : (b : List ℕ) (xs zs : List Section) (s : Before) (from at end : ℕ) (front text : List ℕ) → SpellsSections s xs front → Here b from front at → SpellsSections s zs text → Here b from text end → at ≤ end
+pub goes_on : (b : List ℕ) (xs zs : List Section) (s : Before) (from at end : ℕ) (front text : List ℕ) → SpellsSections s xs front
+    → Here b from front at → SpellsSections s zs text → Here b from text end → at ≤ end
     → GoesOn b xs zs s at end
 goes_on b [] zs s from at end front text f hf t ht le =
     let same : from ≡ at = sym (omega (arith, hf.size, ap length f)) in
@@ -65,7 +67,8 @@ goes_on b (x ∷ xs) (z ∷ zs) s from at end front text f hf t ht le =
     let rest = subst (λ (z : Section). SpellsSections (after z s) zs t.1) (sym is) t.4 in
     let here = subst (λ (p : ℕ). Here b p t.1 end) (sym mid) (here_second b from end t.0 t.1 kt) in
     let more = goes_on b xs zs (after x s) (from + length f.0) at end f.1 t.1 f.4 (here_second b from at f.0 f.1 kf) rest here le in
-    record { others = more.others; text = more.text; whole = ap (λ (z : Section). z ∷ zs) (sym is) ∙ ap (λ l. x ∷ l) more.whole; spelled = more.spelled; here = more.here }
+    record { others = more.others; text = more.text; whole = ap (λ (z : Section). z ∷ zs) (sym is)
+        ∙ ap (λ l. x ∷ l) more.whole; spelled = more.spelled; here = more.here }
 
 -- ---- whole texts
 
@@ -73,30 +76,35 @@ goes_on b (x ∷ xs) (z ∷ zs) s from at end front text f hf t ht le =
 pub one_text : (b : List ℕ) (at end : ℕ) (t u : List ℕ) → Here b at t end → Here b at u end → t ≡ u
 one_text b at end t u ht hu =
     let size : length t ≡ length u = omega (arith, ht.size, hu.size) in
-    sym (take_at t (drop end b) (length t) refl) ∙ ap (take (length t)) (sym ht.whole ∙ hu.whole) ∙ take_at u (drop end b) (length t) (sym size)
+    sym (take_at t (drop end b) (length t) refl) ∙ ap (take (length t)) (sym ht.whole ∙ hu.whole)
+        ∙ take_at u (drop end b) (length t) (sym size)
 
 -- a text is one list of sections
 pub same_sections : (xs ys : List Section) (text : List ℕ) → SpellsSections start xs text → SpellsSections start ys text → xs ≡ ys
 same_sections xs ys text s t =
     ap (λ (p : List Section × ℕ). p.0)
     (ok_is (xs, length text) (ys, length text)
-    (sym (sections_again tell (length text) start text xs 0 text (omega arith) s (whole_here text)) ∙ sections_again tell (length text) start text ys 0 text (omega arith) t (whole_here text)))
+    (sym (sections_again tell (length text) start text xs 0 text (omega arith) s (whole_here text))
+        ∙ sections_again tell (length text) start text ys 0 text (omega arith) t (whole_here text)))
 
 -- sections behind sections
 pub after_both : (xs ys : List Section) (s : Before) → after_all (xs ++ ys) s ≡ after_all ys (after_all xs s)
 after_both [] ys s = refl
 after_both (x ∷ xs) ys s = after_both xs ys (after x s)
 
-pub spelled_both : (xs ys : List Section) (s : Before) (front text : List ℕ) → SpellsSections s xs front → SpellsSections (after_all xs s) ys text → SpellsSections s (xs ++ ys) (front ++ text)
+pub spelled_both : (xs ys : List Section) (s : Before) (front text : List ℕ) → SpellsSections s xs front
+    → SpellsSections (after_all xs s) ys text → SpellsSections s (xs ++ ys) (front ++ text)
 spelled_both [] ys s front text f t = subst (λ l. SpellsSections s ys (l ++ text)) (sym f) t
 spelled_both (x ∷ xs) ys s front text f t =
     (f.0, f.1 ++ text, ap (λ l. l ++ text) f.2 ∙ append_assoc f.0 f.1 text, f.3, spelled_both xs ys (after x s) f.1 text f.4 t)
 
 -- a text that ends at a place is what is left of the bytes up to there
 pub front_is : (b text : List ℕ) (place : ℕ) → Here b 0 text place → take place b ≡ text
-front_is b text place h = ap (take place) h.whole ∙ take_at text (drop place b) place (let e : length text ≡ place = omega (arith, h.size) in e)
+front_is b text place h = ap (take place) h.whole ∙ take_at text (drop place b) place
+    (let e : length text ≡ place = omega (arith, h.size) in e)
 
-pub begins_whole : (b : List ℕ) (xs : List Section) (place : ℕ) (begins : Begins b xs place) → Here b 0 ((magic ++ version) ++ begins.text) place
+pub begins_whole : (b : List ℕ) (xs : List Section) (place : ℕ) (begins : Begins b xs place)
+    → Here b 0 ((magic ++ version) ++ begins.text) place
 begins_whole b xs place begins = here_join b 0 8 place (magic ++ version) begins.text begins.header begins.here
 
 -- a spelled module begins with its sections
@@ -108,9 +116,11 @@ pub all_begins : (m : NestedModule) (b : List ℕ) → SpellsModule m b → Fill
 all_begins m b s =
     let t = s.1 in
     let whole : b ≡ (magic ++ version) ++ t.0 = t.1 in
-    let here : Here b 0 ((magic ++ version) ++ t.0) (length b) = same_text b 0 (length b) b ((magic ++ version) ++ t.0) whole (whole_here b) in
+    let here : Here b 0 ((magic ++ version) ++ t.0) (length b) = same_text b 0 (length b) b ((magic ++ version) ++ t.0) whole (whole_here b)
+        in
     let x = t.2 in
     record {
       sections = x.0;
-      begins = record { header = here_first b 0 (length b) (magic ++ version) t.0 here; text = t.0; here = here_second b 0 (length b) (magic ++ version) t.0 here; spelled = x.3 };
+      begins = record { header = here_first b 0 (length b) (magic ++ version) t.0 here; text = t.0; here = here_second b 0 (length b)
+          (magic ++ version) t.0 here; spelled = x.3 };
     }

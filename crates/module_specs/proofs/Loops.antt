@@ -10,7 +10,8 @@ use Rattle.module_specs.proofs.Readers.{cons_read}
 abbrev pub with_front : {A : Type 0} → List A → Read (List A) → Read (List A)
 with_front front read = read >>= λ x. Ok (front ++ x.0, x.1)
 
-regroup : {A : Type 0} (front : List A) (x : A) (read : Read (List A)) → with_front front (read >>= cons_read x) ≡ with_front (front ++ x ∷ []) read
+regroup : {A : Type 0} (front : List A) (x : A) (read : Read (List A))
+    → with_front front (read >>= cons_read x) ≡ with_front (front ++ x ∷ []) read
 regroup front x (Ok xs) = ap (λ l. Ok (l, xs.1)) (sym (append_assoc front (x ∷ []) xs.0))
 regroup front x (Err f) = refl
 
@@ -21,7 +22,8 @@ module _ {A : Type 0} (item : List ℕ → ℕ → Read A) (b : List ℕ) (front
   goes_on x next lt h so_far =
       let k : count - i ≡ suc (count - (i + 1)) = omega arith in
       sym (regroup front x (each_at item b (count - (i + 1)) next))
-      ∙ sym (ap (λ n. with_front front (each_at item b n at)) k ∙ ap (λ r. with_front front (r >>= λ x. each_at item b (count - (i + 1)) x.1 >>= cons_read x.0)) h)
+      ∙ sym (ap (λ n. with_front front (each_at item b n at)) k ∙ ap
+          (λ r. with_front front (r >>= λ x. each_at item b (count - (i + 1)) x.1 >>= cons_read x.0)) h)
       ∙ so_far
 
   pub ends : (e : Fault) → i < count → Fails e (item b at) → with_front front (each_at item b (count - i) at) ≡ total → Fails e total
@@ -29,7 +31,8 @@ module _ {A : Type 0} (item : List ℕ → ℕ → Read A) (b : List ℕ) (front
   ends Memory lt h so_far = tt
   ends e lt h so_far =
       let k : count - i ≡ suc (count - (i + 1)) = omega arith in
-      sym so_far ∙ ap (λ n. with_front front (each_at item b n at)) k ∙ ap (λ r. with_front front (r >>= λ x. each_at item b (count - (i + 1)) x.1 >>= cons_read x.0)) h
+      sym so_far ∙ ap (λ n. with_front front (each_at item b n at)) k
+          ∙ ap (λ r. with_front front (r >>= λ x. each_at item b (count - (i + 1)) x.1 >>= cons_read x.0)) h
 
   pub is_done : count ≤ i → with_front front (each_at item b (count - i) at) ≡ total → total ≡ Ok (front, at)
   unfolding each_at

@@ -27,7 +27,8 @@ pub ok_is : {A : Type 0} (x y : A) → done x ≡ done y → x ≡ y
 ok_is x y e = cc
 
 -- a test that let reading go on
-pub not_refused : {A : Type 0} (t : Bool) (e : Fault) (f : Unit {0} → Result A Fault) (y : A) → refuse_if t e >>= f ≡ Ok y → (t ≡ false) × (f tt ≡ Ok y)
+pub not_refused : {A : Type 0} (t : Bool) (e : Fault) (f : Unit {0} → Result A Fault) (y : A) → refuse_if t e >>= f ≡ Ok y
+    → (t ≡ false) × (f tt ≡ Ok y)
 not_refused true e f y h = absurd cc
 not_refused false e f y h = (refl, h)
 
@@ -87,8 +88,10 @@ module _ (b : List ℕ) where
   pub byte_rest : (at next x : ℕ) (t : List ℕ) → Here b at (x ∷ t) next → Here b (at + 1) t next
   byte_rest at next x t h = here_second at next (x ∷ []) t h
 
-  byte_ok : (t : Bool) (x next : ℕ) (at : ℕ) → (let p : ℕ × ℕ = (get_or b at 0, at + 1) in cond t (done p) (Err (Short (length b))) ≡ Ok (x, next)) → (t ≡ true) × (get_or b at 0 ≡ x) × (next ≡ at + 1)
-  byte_ok true x next at e = (refl, ap (λ (p : ℕ × ℕ). p.0) (ok_is (get_or b at 0, at + 1) (x, next) e), sym (ap (λ (p : ℕ × ℕ). p.1) (ok_is (get_or b at 0, at + 1) (x, next) e)))
+  byte_ok : (t : Bool) (x next : ℕ) (at : ℕ) → (let p : ℕ × ℕ = (get_or b at 0, at + 1) in cond t (done p) (Err (Short (length b))) ≡ Ok
+      (x, next)) → (t ≡ true) × (get_or b at 0 ≡ x) × (next ≡ at + 1)
+  byte_ok true x next at e = (refl, ap (λ (p : ℕ × ℕ). p.0) (ok_is (get_or b at 0, at + 1) (x, next) e), sym
+      (ap (λ (p : ℕ × ℕ). p.1) (ok_is (get_or b at 0, at + 1) (x, next) e)))
   byte_ok false x next at e = absurd cc
 
   pub byte_here : (at next x : ℕ) → byte_at b at ≡ Ok (x, next) → Here b at (x ∷ []) next
@@ -108,10 +111,12 @@ module _ (b : List ℕ) where
   rest_place at text rest le e =
       let sizes : length b - at ≡ length text + length rest = sym (length-drop at b) ∙ ap length e ∙ length-append text rest in
       let next : length b - length rest ≡ at + length text = omega arith in
-      let is_rest : drop (length b - length rest) b ≡ rest = ap (λ n. drop n b) next ∙ sym (drop-drop (length text) at b) ∙ ap (drop (length text)) e ∙ drop_at text rest (length text) refl in
+      let is_rest : drop (length b - length rest) b ≡ rest = ap (λ n. drop n b) next ∙ sym (drop-drop (length text) at b)
+          ∙ ap (drop (length text)) e ∙ drop_at text rest (length text) refl in
       record { whole = e ∙ ap (λ l. text ++ l) (sym is_rest); size = next; within = omega arith }
 
-  placed_again : {A : Type 0} (at next : ℕ) (r : Result (A × List ℕ) LebError) (n : A) → next ≤ length b → r ≡ Ok (n, drop next b) → placed b at r ≡ Ok (n, next)
+  placed_again : {A : Type 0} (at next : ℕ) (r : Result (A × List ℕ) LebError) (n : A) → next ≤ length b → r ≡ Ok (n, drop next b)
+      → placed b at r ≡ Ok (n, next)
   placed_again at next r n le e =
       let back : length b - length (drop next b) ≡ next = omega (arith, length-drop next b) in
       ap (placed b at) e ∙ ap (λ k. Ok (n, k)) back
@@ -151,7 +156,8 @@ module _ (b : List ℕ) where
   zero_again at next text s h =
       let k = same_text at next text (0 ∷ []) s h in
       let n : at + 1 ≡ next = omega (arith, k.size) in
-      ap (λ r. r >>= λ byte. refuse_if (not (eqb byte.0 0)) (Opcode at byte.0) >>= λ fine. Ok byte.1) (byte_again at next 0 [] k) ∙ ap (λ n. Ok n) n
+      ap (λ r. r >>= λ byte. refuse_if (not (eqb byte.0 0)) (Opcode at byte.0) >>= λ fine. Ok byte.1) (byte_again at next 0 [] k)
+          ∙ ap (λ n. Ok n) n
 
   zero_ok : (t : Bool) (e : Fault) (n next : ℕ) → refuse_if (not t) e >>= (λ fine. Ok n) ≡ Ok next → (t ≡ true) × (n ≡ next)
   zero_ok true e n next h = (refl, ok_is n next h)
@@ -165,19 +171,22 @@ module _ (b : List ℕ) where
       subst (Here b at (0 ∷ [])) z.1 (subst (λ (n : ℕ). Here b at (n ∷ []) x.0.1) (eqb-true x.0.0 0 z.0) (byte_here at x.0.1 x.0.0 x.1))
 
   module _ (fits : IsBytes b) where
-    pub u32_here : (at next n : ℕ) → at ≤ length b → u32_at b at ≡ Ok (n, next) → (text : List ℕ) × Here b at text next × SpellsUnsigned 32 text n
+    pub u32_here : (at next n : ℕ) → at ≤ length b → u32_at b at ≡ Ok (n, next)
+        → (text : List ℕ) × Here b at text next × SpellsUnsigned 32 text n
     unfolding u32_at
     u32_here at next n le e =
         placed_here (SpellsUnsigned 32) at next (unsigned_at 32 (drop at b)) n le
         (λ p e. front LastUnsigned join_unsigned last_unsigned unsigned_reads 32 (drop at b) p (IsBytes-drop at b fits) e) e
 
-    pub s32_here : (at next : ℕ) (z : ℤ) → at ≤ length b → s32_at b at ≡ Ok (z, next) → (text : List ℕ) × Here b at text next × SpellsSigned 32 text z
+    pub s32_here : (at next : ℕ) (z : ℤ) → at ≤ length b → s32_at b at ≡ Ok (z, next)
+        → (text : List ℕ) × Here b at text next × SpellsSigned 32 text z
     unfolding s32_at
     s32_here at next z le e =
         placed_here (SpellsSigned 32) at next (signed_at 32 (drop at b)) z le
         (λ p e. front LastSigned join_signed last_signed signed_reads 32 (drop at b) p (IsBytes-drop at b fits) e) e
 
-    pub s64_here : (at next : ℕ) (z : ℤ) → at ≤ length b → s64_at b at ≡ Ok (z, next) → (text : List ℕ) × Here b at text next × SpellsSigned 64 text z
+    pub s64_here : (at next : ℕ) (z : ℤ) → at ≤ length b → s64_at b at ≡ Ok (z, next)
+        → (text : List ℕ) × Here b at text next × SpellsSigned 64 text z
     unfolding s64_at
     s64_here at next z le e =
         placed_here (SpellsSigned 64) at next (signed_at 64 (drop at b)) z le

@@ -52,18 +52,22 @@ module _ {S : Type 0} (answer : S → Call → Reply × S) where
       → Counts asks_by (λ (x : Iteration). wishes x.wish) before (r, (noted_at t log))
       → ((emitted : List Emission) (u : S) (mid : List Exchange) → Loops n mid (g emitted (noted_at u mid)))
       → Loops (suc n) before (continue_with r (noted_at t log) (λ x s. next_iteration (noting answer) x.wish x.emitted s (g x.emitted s)))
-  looped_parts n before (Ok x) t log g c k = looped_by n before x.wish x.emitted t log (g x.emitted (noted_at t log)) c.count (k x.emitted t log)
+  looped_parts n before (Ok x) t log g c k = looped_by n before x.wish x.emitted t log (g x.emitted (noted_at t log)) c.count
+      (k x.emitted t log)
   looped_parts n before (Err why) t log g c k = record {
     most = omega (arith, c.count);
     loop = λ h. absurd (c.no_loop (cc));
     only = λ h. absurd (omega (arith, c.count, h));
   }
 
-  loops_iterated : (ts : List Terminal) (n : ℕ) (emitted : List Emission) (s : S) (before : List Exchange) → Loops n before (iterations (noting answer) ts n emitted (noted_at s before))
+  loops_iterated : (ts : List Terminal) (n : ℕ) (emitted : List Emission) (s : S) (before : List Exchange)
+      → Loops n before (iterations (noting answer) ts n emitted (noted_at s before))
   unfolding iterations
   loops_iterated ts zero emitted s before = record { most = omega arith; loop = λ h. omega arith; only = λ h. refl }
-  loops_iterated ts (suc n) emitted s before = let p : Result Iteration Cause × Noted S = iteration_of (noting answer) ts emitted (noted_at s before) in
-      looped_parts n before p.0 p.1.state p.1.exchanges (λ emitted s. iterations (noting answer) ts n emitted s) (turned_counts answer asks_by wishes weighs ts emitted s before)
+  loops_iterated ts (suc n) emitted s before = let p : Result Iteration Cause × Noted S = iteration_of (noting answer) ts emitted
+      (noted_at s before) in
+      looped_parts n before p.0 p.1.state p.1.exchanges (λ emitted s. iterations (noting answer) ts n emitted s)
+          (turned_counts answer asks_by wishes weighs ts emitted s before)
       (λ emitted u mid. loops_iterated ts n emitted u mid)
 
   before_parts : {A B : Type 0} (n : ℕ) (before : List Exchange) (r : Result A Cause) (t : S) (log : List Exchange)
@@ -85,10 +89,12 @@ module _ {S : Type 0} (answer : S → Call → Reply × S) where
       (g : A → Noted S → Result B Cause × Noted S)
       → Loops n before (r, (noted_at t log)) → ((x : A) (u : S) (mid : List Exchange) → Quiet asks_by mid (g x (noted_at u mid)))
       → Loops n before (continue_with r (noted_at t log) g)
-  behind_parts n before (Ok x) t log g l k = let q = k x t log in let z : weigh (λ x. 0) (g x (noted_at t log)).0 ≡ 0 = weigh_nothing (g x (noted_at t log)).0 in record {
+  behind_parts n before (Ok x) t log g l k = let q = k x t log in let z : weigh (λ x. 0) (g x (noted_at t log)).0 ≡ 0 = weigh_nothing
+      (g x (noted_at t log)).0 in record {
     most = omega (arith, q.count, l.most, z);
     loop = λ h. absurd (q.no_loop h);
-    only = λ h. let e : again_of log ≡ again_of before + n = omega (arith, q.count, h, z) in let m : Ok x ≡ Err Loop = l.only e in absurd cc;
+    only = λ h. let e : again_of log ≡ again_of before + n = omega (arith, q.count, h, z) in let m : Ok x ≡ Err Loop = l.only e in absurd
+        cc;
   }
   behind_parts n before (Err why) t log g l k = record {
     most = l.most;
@@ -96,7 +102,8 @@ module _ {S : Type 0} (answer : S → Call → Reply × S) where
     only = λ h. let m : Err why ≡ Err Loop = l.only h in cc;
   }
 
-  pub loops_ran : (d : Description) (input : SessionIn) (fresh : Bool) (s : S) (before : List Exchange) → Loops 16 before (all_calls (noting answer) d input fresh (noted_at s before))
+  pub loops_ran : (d : Description) (input : SessionIn) (fresh : Bool) (s : S) (before : List Exchange)
+      → Loops 16 before (all_calls (noting answer) d input fresh (noted_at s before))
   loops_ran d input fresh s before =
       let p : Result Reply Cause × Noted S = entry_calls (noting answer) fresh input (noted_at s before) in
       before_parts 16 before p.0 p.1.state p.1.exchanges _ (omega arith) (quiet_begun answer asks_by wishes weighs fresh input s before)

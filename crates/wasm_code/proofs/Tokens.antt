@@ -75,10 +75,12 @@ only_in op (f ∷ fs) a = by_test (is_of op f) (λ e. e) (only_in op fs a.1)
     by_test false is others = others
 
 control_alone : AllAlone control_table
-control_alone = (tt, (tt, ((refl, refl), ((refl, refl), ((refl, refl), ((refl, refl), ((refl, refl), (tt, (tt, (tt, (tt, (tt, (tt, (tt, (tt, tt)))))))))))))))
+control_alone = (tt, (tt, ((refl, refl), ((refl, refl), ((refl, refl), ((refl, refl),
+    ((refl, refl), (tt, (tt, (tt, (tt, (tt, (tt, (tt, (tt, tt)))))))))))))))
 
 data_alone : AllAlone data_table
-data_alone = (tt, (tt, (tt, (tt, (tt, (tt, (tt, (tt, (tt, (tt, (tt, (tt, (tt, (tt, (tt, (tt, (tt, (tt, (tt, (tt, (tt, (tt, (tt, tt)))))))))))))))))))))))
+data_alone = (tt, (tt, (tt, (tt, (tt, (tt, (tt, (tt, (tt, (tt, (tt, (tt, (tt,
+    (tt, (tt, (tt, (tt, (tt, (tt, (tt, (tt, (tt, (tt, tt)))))))))))))))))))))))
 
 numeric_alone : AllAlone numeric_table
 numeric_alone = (tt, (tt, (tt, (tt, (tt, (tt, (tt, (tt, (tt, (tt, (tt, (tt, (tt, (tt, tt))))))))))))))
@@ -86,7 +88,8 @@ numeric_alone = (tt, (tt, (tt, (tt, (tt, (tt, (tt, (tt, (tt, (tt, (tt, (tt, (tt,
 only_at : (op : ℕ) → OnlyAt op (group_of op)
 only_at op = by_tests (nat_lt op 0x20) (nat_lt op 0x45)
   where
-    by_tests : (t u : Bool) → OnlyAt op (cond t (look_up op control_table) (cond u (look_up op data_table) (look_up op numeric_table))).group
+    by_tests : (t u : Bool) → OnlyAt op (cond t (look_up op control_table) (cond u (look_up op data_table)
+        (look_up op numeric_table))).group
     by_tests true u = only_in op control_table control_alone
     by_tests false true = only_in op data_table data_alone
     by_tests false false = only_in op numeric_table numeric_alone
@@ -94,17 +97,21 @@ only_at op = by_tests (nat_lt op 0x20) (nat_lt op 0x45)
 -- ---- reading again
 
 module _ (b : List ℕ) where
-  rest_again : (at op p next : ℕ) (r : Group) (i : Instr) (text : List ℕ) → p ≤ length b → SpellsImmediates op r i text → Here b p text next → immediates_at b at op p r ≡ Ok (Plain i, next)
+  rest_again : (at op p next : ℕ) (r : Group) (i : Instr) (text : List ℕ) → p ≤ length b → SpellsImmediates op r i text → Here b p text next
+      → immediates_at b at op p r ≡ Ok (Plain i, next)
   rest_again at op p next (group.Bare what) i text le s h =
       let n : p ≡ next = sym (omega (arith, h.size, ap length s.0)) in
       ap (λ i. Ok (Plain i, p)) (sym s.1) ∙ ap (λ k. Ok (Plain i, k)) n
   rest_again at op p next (group.Index what) i text le s h =
-      ap (λ r. r >>= λ n. Ok (Plain (indexed_instr op what n.0), n.1)) (u32_again b p next s.0 text s.1 h) ∙ ap (λ i. Ok (Plain i, next)) (sym s.2)
+      ap (λ r. r >>= λ n. Ok (Plain (indexed_instr op what n.0), n.1)) (u32_again b p next s.0 text s.1 h)
+          ∙ ap (λ i. Ok (Plain i, next)) (sym s.2)
   rest_again at op p next (group.Access bytes) i text le s h =
       let t = s.2 in
       let both = same_text b p next text (t.0 ++ t.1) t.2 h in
-      ap (λ r. r >>= λ a. u32_at b a.1 >>= λ o. Ok (Plain (instr.Access op a.0 o.0), o.1)) (u32_again b p (p + length t.0) s.0 t.0 t.3 (here_first b p next t.0 t.1 both))
-      ∙ ap (λ r. r >>= λ o. Ok (Plain (instr.Access op s.0 o.0), o.1)) (u32_again b (p + length t.0) next s.1 t.1 t.4 (here_second b p next t.0 t.1 both))
+      ap (λ r. r >>= λ a. u32_at b a.1 >>= λ o. Ok (Plain (instr.Access op a.0 o.0), o.1))
+          (u32_again b p (p + length t.0) s.0 t.0 t.3 (here_first b p next t.0 t.1 both))
+      ∙ ap (λ r. r >>= λ o. Ok (Plain (instr.Access op s.0 o.0), o.1))
+          (u32_again b (p + length t.0) next s.1 t.1 t.4 (here_second b p next t.0 t.1 both))
       ∙ ap (λ i. Ok (Plain i, next)) (sym s.3)
   rest_again at op p next (group.Constant I32) i text le s h =
       ap (λ r. r >>= λ z. Ok (Plain (instr.I32Const z.0), z.1)) (s32_again b p next s.0 text s.1 h) ∙ ap (λ i. Ok (Plain i, next)) (sym s.2)
@@ -115,14 +122,18 @@ module _ (b : List ℕ) where
   rest_again at op p next group.Indirect i text le s h =
       let t = s.1 in
       let both = same_text b p next text (t.0 ++ t.1) t.2 h in
-      ap (λ r. r >>= λ n. zero_at b n.1 >>= λ m. Ok (Plain (instr.CallIndirect n.0), m)) (u32_again b p (p + length t.0) s.0 t.0 t.3 (here_first b p next t.0 t.1 both))
-      ∙ ap (λ r. r >>= λ m. Ok (Plain (instr.CallIndirect s.0), m)) (zero_again b (p + length t.0) next t.1 t.4 (here_second b p next t.0 t.1 both))
+      ap (λ r. r >>= λ n. zero_at b n.1 >>= λ m. Ok (Plain (instr.CallIndirect n.0), m))
+          (u32_again b p (p + length t.0) s.0 t.0 t.3 (here_first b p next t.0 t.1 both))
+      ∙ ap (λ r. r >>= λ m. Ok (Plain (instr.CallIndirect s.0), m))
+          (zero_again b (p + length t.0) next t.1 t.4 (here_second b p next t.0 t.1 both))
       ∙ ap (λ i. Ok (Plain i, next)) (sym s.2)
   rest_again at op p next group.Table i text le s h =
       let t = s.2 in
       let both = same_text b p next text (t.0 ++ t.1) t.2 h in
-      ap (λ r. r >>= λ ls. u32_at b ls.1 >>= λ d. Ok (Plain (instr.BrTable ls.0 d.0), d.1)) (labels_tell.again b p (p + length t.0) s.0 t.0 t.3 (here_first b p next t.0 t.1 both))
-      ∙ ap (λ r. r >>= λ d. Ok (Plain (instr.BrTable s.0 d.0), d.1)) (u32_again b (p + length t.0) next s.1 t.1 t.4 (here_second b p next t.0 t.1 both))
+      ap (λ r. r >>= λ ls. u32_at b ls.1 >>= λ d. Ok (Plain (instr.BrTable ls.0 d.0), d.1))
+          (labels_tell.again b p (p + length t.0) s.0 t.0 t.3 (here_first b p next t.0 t.1 both))
+      ∙ ap (λ r. r >>= λ d. Ok (Plain (instr.BrTable s.0 d.0), d.1))
+          (u32_again b (p + length t.0) next s.1 t.1 t.4 (here_second b p next t.0 t.1 both))
       ∙ ap (λ i. Ok (Plain i, next)) (sym s.3)
   rest_again at op p next (group.Opens k) i text le s h = absurd s
   rest_again at op p next group.Else i text le s h = absurd s
@@ -134,7 +145,8 @@ module _ (b : List ℕ) where
   unfolding token_at
   token_first at next op text h = ap (λ r. r >>= λ op. immediates_at b at op.0 op.1 (group_of op.0)) (byte_again b at next op text h)
 
-  pub instr_again : (at next : ℕ) (i : Instr) (text : List ℕ) → SpellsInstr i text → Here b at text next → token_at b at ≡ Ok (Plain i, next)
+  pub instr_again : (at next : ℕ) (i : Instr) (text : List ℕ) → SpellsInstr i text → Here b at text next
+      → token_at b at ≡ Ok (Plain i, next)
   instr_again at next i [] s h = absurd s
   instr_again at next i (op ∷ text) s h =
       token_first at next op text h
@@ -166,7 +178,8 @@ module _ (b : List ℕ) where
   Behind op p r next Else = (r ≡ group.Else) × (next ≡ p)
   Behind op p r next End = (r ≡ group.End) × (next ≡ p)
 
-  read_is : (op p next k : ℕ) (r : Group) (t u : Token) → (let x : Token × ℕ = (t, k) in let y : Token × ℕ = (u, next) in done x ≡ done y) → Behind op p r k t → Behind op p r next u
+  read_is : (op p next k : ℕ) (r : Group) (t u : Token) → (let x : Token × ℕ = (t, k) in let y : Token × ℕ = (u, next) in done x ≡ done y)
+      → Behind op p r k t → Behind op p r next u
   read_is op p next k r t u e x = subst (λ (q : Token × ℕ). Behind op p r q.1 q.0) (ok_is (t, k) (u, next) e) x
 
   module _ (fits : IsBytes b) where
@@ -174,7 +187,8 @@ module _ (b : List ℕ) where
     behind at op p next (group.Opens k) t le e = read_is op p next p (group.Opens k) (Opens k) t e (refl, refl)
     behind at op p next group.Else t le e = read_is op p next p group.Else Else t e (refl, refl)
     behind at op p next group.End t le e = read_is op p next p group.End End t e (refl, refl)
-    behind at op p next (group.Bare what) t le e = read_is op p next p (group.Bare what) (Plain (simple_instr op what)) t e ([], nothing_here b p le, (refl, refl))
+    behind at op p next (group.Bare what) t le e = read_is op p next p (group.Bare what) (Plain (simple_instr op what)) t e
+        ([], nothing_here b p le, (refl, refl))
     behind at op p next (group.Index what) t le e =
         let x = bind_ok (u32_at b p) (λ n. Ok (Plain (indexed_instr op what n.0), n.1)) (t, next) e in
         let h = u32_here b fits p x.0.1 x.0.0 le x.1 in
@@ -214,11 +228,15 @@ module _ (b : List ℕ) where
     behind at op p next group.Float t le e = absurd cc
     behind at op p next group.Unknown t le e = absurd cc
 
-    joined : (at op p next : ℕ) (t : Token) → Here b at (op ∷ []) p → OnlyAt op (group_of op) → Behind op p (group_of op) next t → Spelled at next t
+    joined : (at op p next : ℕ) (t : Token) → Here b at (op ∷ []) p → OnlyAt op (group_of op) → Behind op p (group_of op) next t
+        → Spelled at next t
     joined at op p next (Plain i) h only x = (op ∷ x.0, here_join b at p next (op ∷ []) x.0 h x.1, x.2)
-    joined at op p next (Opens k) h only x = subst (Here b at (kind_byte k ∷ [])) (sym x.1) (subst (λ (n : ℕ). Here b at (n ∷ []) p) (subst (OnlyAt op) x.0 only).is h)
-    joined at op p next Else h only x = subst (Here b at (0x05 ∷ [])) (sym x.1) (subst (λ (n : ℕ). Here b at (n ∷ []) p) (subst (OnlyAt op) x.0 only).is h)
-    joined at op p next End h only x = subst (Here b at (0x0B ∷ [])) (sym x.1) (subst (λ (n : ℕ). Here b at (n ∷ []) p) (subst (OnlyAt op) x.0 only).is h)
+    joined at op p next (Opens k) h only x = subst (Here b at (kind_byte k ∷ [])) (sym x.1)
+        (subst (λ (n : ℕ). Here b at (n ∷ []) p) (subst (OnlyAt op) x.0 only).is h)
+    joined at op p next Else h only x = subst (Here b at (0x05 ∷ [])) (sym x.1)
+        (subst (λ (n : ℕ). Here b at (n ∷ []) p) (subst (OnlyAt op) x.0 only).is h)
+    joined at op p next End h only x = subst (Here b at (0x0B ∷ [])) (sym x.1)
+        (subst (λ (n : ℕ). Here b at (n ∷ []) p) (subst (OnlyAt op) x.0 only).is h)
 
     pub token_here : (at next : ℕ) (t : Token) → token_at b at ≡ Ok (t, next) → Spelled at next t
     unfolding token_at

@@ -36,7 +36,8 @@ Lies = Fine InBody
 
 module _ (b : List ℕ) where
   -- a number, and what follows it
-  u32_then : {A : Type 0} (at : ℕ) (f : ℕ × ℕ → Read A) → at ≤ length b → ((x : ℕ × ℕ) → at ≤ x.1 → x.1 ≤ length b → Lies b at (f x)) → Lies b at (u32_at b at >>= f)
+  u32_then : {A : Type 0} (at : ℕ) (f : ℕ × ℕ → Read A) → at ≤ length b → ((x : ℕ × ℕ) → at ≤ x.1 → x.1 ≤ length b → Lies b at (f x))
+      → Lies b at (u32_at b at >>= f)
   u32_then at f le k = then InBody b at (u32_at b at) f (u32_stays InBody allows b at le) k
 
   from_next : (op p : ℕ) (g : Group) (at : ℕ) → at ≤ p → p ≤ length b → Lies b p (immediates_at b at op p g)
@@ -44,20 +45,25 @@ module _ (b : List ℕ) where
   from_next op p group.Else at le within = (omega arith, within)
   from_next op p group.End at le within = (omega arith, within)
   from_next op p (group.Bare what) at le within = (omega arith, within)
-  from_next op p (group.Zero what) at le within = zero_then InBody allows b p (λ end. Ok (Plain (simple_instr op what), end)) within (λ end more to. (more, to))
-  from_next op p (group.Index what) at le within = u32_then p (λ n. Ok (Plain (indexed_instr op what n.0), n.1)) within (λ x more to. (more, to))
+  from_next op p (group.Zero what) at le within = zero_then InBody allows b p (λ end. Ok (Plain (simple_instr op what), end)) within
+      (λ end more to. (more, to))
+  from_next op p (group.Index what) at le within = u32_then p (λ n. Ok (Plain (indexed_instr op what n.0), n.1)) within
+      (λ x more to. (more, to))
   from_next op p (group.Access bytes) at le within =
       u32_then p (λ align. u32_at b align.1 >>= λ offset. Ok (Plain (instr.Access op align.0 offset.0), offset.1)) within
       (λ x more to. earlier InBody b p (u32_at b x.1 >>= λ offset. Ok (Plain (instr.Access op x.0 offset.0), offset.1)) x.1 more
       (u32_then x.1 (λ offset. Ok (Plain (instr.Access op x.0 offset.0), offset.1)) to (λ y on end. (on, end))))
-  from_next op p (group.Constant I32) at le within = then InBody b p (s32_at b p) (λ z. Ok (Plain (instr.I32Const z.0), z.1)) (s32_stays InBody allows b p within) (λ x more to. (more, to))
-  from_next op p (group.Constant I64) at le within = then InBody b p (s64_at b p) (λ z. Ok (Plain (instr.I64Const z.0), z.1)) (s64_stays InBody allows b p within) (λ x more to. (more, to))
+  from_next op p (group.Constant I32) at le within = then InBody b p (s32_at b p) (λ z. Ok (Plain (instr.I32Const z.0), z.1))
+      (s32_stays InBody allows b p within) (λ x more to. (more, to))
+  from_next op p (group.Constant I64) at le within = then InBody b p (s64_at b p) (λ z. Ok (Plain (instr.I64Const z.0), z.1))
+      (s64_stays InBody allows b p within) (λ x more to. (more, to))
   from_next op p group.Indirect at le within =
       u32_then p (λ type. zero_at b type.1 >>= λ end. Ok (Plain (instr.CallIndirect type.0), end)) within
       (λ x more to. earlier InBody b p (zero_at b x.1 >>= λ end. Ok (Plain (instr.CallIndirect x.0), end)) x.1 more
       (zero_then InBody allows b x.1 (λ end. Ok (Plain (instr.CallIndirect x.0), end)) to (λ y on end. (on, end))))
   from_next op p group.Table at le within =
-      then InBody b p (vector_at u32_at b p) (λ labels. u32_at b labels.1 >>= λ default. Ok (Plain (instr.BrTable labels.0 default.0), default.1)) (vector_stays InBody allows u32_at (u32_stays InBody allows) b p within)
+      then InBody b p (vector_at u32_at b p) (λ labels. u32_at b labels.1 >>= λ default. Ok
+          (Plain (instr.BrTable labels.0 default.0), default.1)) (vector_stays InBody allows u32_at (u32_stays InBody allows) b p within)
       (λ x more to. earlier InBody b p (u32_at b x.1 >>= λ default. Ok (Plain (instr.BrTable x.0 default.0), default.1)) x.1 more
       (u32_then x.1 (λ default. Ok (Plain (instr.BrTable x.0 default.0), default.1)) to (λ y on end. (on, end))))
   from_next op p group.Float at le within = allows.float (length b) at (omega arith)
@@ -67,13 +73,15 @@ module _ (b : List ℕ) where
   unfolding token_at
   token_stays at le =
       then InBody b at (byte_at b at) (λ op. immediates_at b at op.0 op.1 (group_of op.0)) (byte_stays InBody allows b at le)
-      (λ op more within. earlier InBody b at (immediates_at b at op.0 op.1 (group_of op.0)) op.1 more (from_next op.0 op.1 (group_of op.0) at more within))
+      (λ op more within. earlier InBody b at (immediates_at b at op.0 op.1 (group_of op.0)) op.1 more
+          (from_next op.0 op.1 (group_of op.0) at more within))
 
   module _ (at : ℕ) where
     abbrev Goes : (ℕ → List Open → (Code → Code) → Read Code) → Type 0
     Goes go = (place : ℕ) (os : List Open) (list : Code → Code) → at ≤ place → place ≤ length b → Lies b at (go place os list)
 
-    module _ (go : ℕ → List Open → (Code → Code) → Read Code) (goes : Goes go) (place next : ℕ) (le : at ≤ next) (within : next ≤ length b) (here : place ≤ length b) where
+    module _ (go : ℕ → List Open → (Code → Code) → Read Code) (goes : Goes go) (place next : ℕ) (le : at ≤ next) (within : next ≤ length b)
+        (here : place ≤ length b) where
       else_lies : (os : List Open) (list : Code → Code) → Lies b at (after_else (go next) place os list)
       else_lies [] list = (tt, here)
       else_lies (o ∷ os) list = by_part o.what
@@ -88,7 +96,8 @@ module _ (b : List ℕ) where
       act_lies (Plain i) os list = goes next os (λ rest. list (Leaf i rest)) le within
       act_lies (Opens k) os list = by_test (nat_lt (length os) most_nested)
         where
-          by_test : (t : Bool) → Lies b at (cond t (block_type_at b next >>= λ r. go r.1 (record { what = First k r.0; before = list } ∷ os) (λ rest. rest)) (Err (Limit place)))
+          by_test : (t : Bool) → Lies b at (cond t (block_type_at b next >>= λ r. go r.1 (record { what = First k r.0; before = list } ∷ os)
+              (λ rest. rest)) (Err (Limit place)))
           by_test true =
               then InBody b at (block_type_at b next) (λ r. go r.1 (record { what = First k r.0; before = list } ∷ os) (λ rest. rest))
               (earlier InBody b at (block_type_at b next) next le (block_type_stays InBody allows b next within))
@@ -102,7 +111,8 @@ module _ (b : List ℕ) where
     unfolding code_from
     code_lies zero place os list le within = allows.short (length b)
     code_lies (suc fuel) place os list le within =
-        then InBody b at (token_at b place) (λ token. act (code_from fuel b) b place os list token.0 token.1) (earlier InBody b at (token_at b place) place le (token_stays place within))
+        then InBody b at (token_at b place) (λ token. act (code_from fuel b) b place os list token.0 token.1)
+            (earlier InBody b at (token_at b place) place le (token_stays place within))
         (λ t more to. act_lies (code_from fuel b) (code_lies fuel) place t.1 more to within t.0 os list)
 
   module _ (body at : ℕ) (behind : body ≤ at) where
@@ -110,12 +120,15 @@ module _ (b : List ℕ) where
     unfolding runs_at
     runs_lie zero room place le within = (le, within)
     runs_lie (suc n) room place le within =
-        then InBody b at (u32_at b place) (λ count. refuse_if (nat_lt room count.0) (Limit body) >>= λ fine. type_at b count.1 >>= λ type. runs_at body b (room - count.0) n type.1 >>= before_run count.0 type.0)
+        then InBody b at (u32_at b place) (λ count. refuse_if (nat_lt room count.0) (Limit body) >>= λ fine. type_at b count.1 >>= λ type.
+            runs_at body b (room - count.0) n type.1 >>= before_run count.0 type.0)
         (earlier InBody b at (u32_at b place) place le (u32_stays InBody allows b place within))
-        (λ count more to. unless InBody b at (nat_lt room count.0) (Limit body) (λ fine. type_at b count.1 >>= λ type. runs_at body b (room - count.0) n type.1 >>= before_run count.0 type.0) (tt, omega arith)
+        (λ count more to. unless InBody b at (nat_lt room count.0) (Limit body)
+            (λ fine. type_at b count.1 >>= λ type. runs_at body b (room - count.0) n type.1 >>= before_run count.0 type.0) (tt, omega arith)
         (λ fine. then InBody b at (type_at b count.1) (λ type. runs_at body b (room - count.0) n type.1 >>= before_run count.0 type.0)
         (earlier InBody b at (type_at b count.1) count.1 more (type_stays InBody allows b count.1 to))
-        (λ type on end. then InBody b at (runs_at body b (room - count.0) n type.1) (before_run count.0 type.0) (runs_lie n (room - count.0) type.1 on end) (λ rest from stop. (from, stop)))))
+        (λ type on end. then InBody b at (runs_at body b (room - count.0) n type.1) (before_run count.0 type.0)
+            (runs_lie n (room - count.0) type.1 on end) (λ rest from stop. (from, stop)))))
 
     locals_lie : at ≤ length b → Lies b at (locals_at body b at)
     unfolding locals_at
@@ -126,8 +139,10 @@ module _ (b : List ℕ) where
     content_lies : (ty : ℕ) → at ≤ length b → Lies b at (content_at ty body b at)
     unfolding content_at
     content_lies ty within =
-        then InBody b at (locals_at body b at) (λ locals. code_at b locals.1 >>= λ code. Ok (record { ty = ty; locals = locals.0; code = code.0 }, code.1)) (locals_lie within)
-        (λ locals more to. then InBody b at (code_at b locals.1) (λ code. Ok (record { ty = ty; locals = locals.0; code = code.0 }, code.1)) (code_lies at (length b) locals.1 [] (λ rest. rest) more to) (λ code on end. (on, end)))
+        then InBody b at (locals_at body b at) (λ locals. code_at b locals.1 >>= λ code. Ok
+            (record { ty = ty; locals = locals.0; code = code.0 }, code.1)) (locals_lie within)
+        (λ locals more to. then InBody b at (code_at b locals.1) (λ code. Ok (record { ty = ty; locals = locals.0; code = code.0 }, code.1))
+            (code_lies at (length b) locals.1 [] (λ rest. rest) more to) (λ code on end. (on, end)))
 
 -- a body lies in its region, and so does its first fault, which is one of code
 pub body_stays : (ty : ℕ) → Stays InBody (body_at ty)

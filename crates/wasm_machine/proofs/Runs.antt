@@ -71,33 +71,40 @@ module _ (fm : Module) (c : IsChecked fm) (i : ℕ) (arguments : List ℕ) (q : 
   starts f values at is = begins (nested_module fm) fm (same_of fm c) i q.f f arguments values s0 f0 q.is at q.fit is
 
   pub stays_fine : (k : Stack) (s : Store) (f : ℕ) → Stays fm k s f (meant fm i arguments s0 f0) → step_in fm k s f ≢ Stop Stuck
-  stays_fine k s f x = never_stops_stuck (nested_module fm) fm (same_of fm c) k.func k.position k.base k.depth k.values k.labels k.callers s f r is_fine x
+  stays_fine k s f x = never_stops_stuck (nested_module fm) fm (same_of fm c) k.func k.position k.base k.depth k.values k.labels k.callers s
+      f r is_fine x
 
-  pub stays_roomy : (k : Stack) (s : Store) (f : ℕ) → Stays fm k s f (meant fm i arguments s0 f0) → HasRoom k.depth k.values k.labels k.callers
+  pub stays_roomy : (k : Stack) (s : Store) (f : ℕ) → Stays fm k s f (meant fm i arguments s0 f0)
+      → HasRoom k.depth k.values k.labels k.callers
   stays_roomy k s f x = room_is (nested_module fm) fm k.func k.position k.base k.depth k.values k.labels k.callers s f r is_fine x
 
   kept : (k : Stack) (s : Store) (f : ℕ) → Stays fm k s f r → Keeps (nested_module fm) fm (step_in fm k s f) r
   kept k s f x = keeps (nested_module fm) fm (same_of fm c) k.func k.position k.base k.depth k.values k.labels k.callers s f r is_fine x
 
-  pub stays_on : (k new : Stack) (s t : Store) (f g : ℕ) → Stays fm k s f (meant fm i arguments s0 f0) → step_in fm k s f ≡ seen turn.Go new t g → Stays fm new t g (meant fm i arguments s0 f0)
+  pub stays_on : (k new : Stack) (s t : Store) (f g : ℕ) → Stays fm k s f (meant fm i arguments s0 f0)
+      → step_in fm k s f ≡ seen turn.Go new t g → Stays fm new t g (meant fm i arguments s0 f0)
   stays_on k new s t f g x e = subst (λ st. Keeps (nested_module fm) fm st r) e (kept k s f x)
 
-  answered : (t : Turn) (k : Stack) (s : Store) (g : ℕ) → t ≢ turn.Go → Keeps (nested_module fm) fm (seen t k s g) r → answer_at t s g ≡ bits_of_answer r
+  answered : (t : Turn) (k : Stack) (s : Store) (g : ℕ) → t ≢ turn.Go → Keeps (nested_module fm) fm (seen t k s g) r
+      → answer_at t s g ≡ bits_of_answer r
   answered turn.Go k s g other h = absurd (other refl)
   answered (turn.Returned v) k s g other h = h
   answered (turn.Trapped kind) k s g other h = h
   answered turn.Spent k s g other h = h
 
-  pub stops : (t : Turn) (k new : Stack) (s u : Store) (f g : ℕ) → t ≢ turn.Go → Stays fm k s f (meant fm i arguments s0 f0) → step_in fm k s f ≡ seen t new u g → answer_at t u g ≡ bits_of_answer (meant fm i arguments s0 f0)
+  pub stops : (t : Turn) (k new : Stack) (s u : Store) (f g : ℕ) → t ≢ turn.Go → Stays fm k s f (meant fm i arguments s0 f0)
+      → step_in fm k s f ≡ seen t new u g → answer_at t u g ≡ bits_of_answer (meant fm i arguments s0 f0)
   stops t k new s u f g other x e = answered t new u g other (subst (λ st. Keeps (nested_module fm) fm st r) e (kept k s f x))
 
 -- the measure
 abbrev pub left_of : Stack → ℕ → ℕ
 left_of k f = 2 * f + (length k.labels + length k.callers)
 
-pub falls : (fm : Module) (n : ℕ) (k new : Stack) (s t : Store) (f g : ℕ) → n ≤ length s.bytes → k.depth ≤ length k.labels → step_in fm k s f ≡ seen turn.Go new t g → (left_of new g < left_of k f) × (n ≤ length t.bytes)
+pub falls : (fm : Module) (n : ℕ) (k new : Stack) (s t : Store) (f g : ℕ) → n ≤ length s.bytes → k.depth ≤ length k.labels
+    → step_in fm k s f ≡ seen turn.Go new t g → (left_of new g < left_of k f) × (n ≤ length t.bytes)
 falls fm n k new s t f g le inside e =
-    subst (Falls (left_of k f) n) e (step_falls (nested_module fm) fm n s le k.func k.position k.base k.depth k.values k.labels k.callers f inside)
+    subst (Falls (left_of k f) n) e (step_falls (nested_module fm) fm n s le k.func k.position k.base k.depth k.values k.labels k.callers f
+        inside)
 
 -- ---- memory
 
@@ -121,8 +128,10 @@ larger_more n k (Go func position base depth values labels callers s f) le lt = 
 larger_more n k (Stop a) le lt = lt
 
 -- a step that would leave more bytes than there were before the call
-pub never_larger : (fm : Module) (c : IsChecked fm) (i : ℕ) (arguments : List ℕ) (q : Fits fm i arguments) (s0 : Store) (f0 : ℕ) (k : Stack) (s : Store) (f : ℕ)
-    → Stays fm k s f (meant fm i arguments s0 f0) → length s0.bytes ≤ length s.bytes → LargerStep (length s.bytes) (step_in fm k s f) → KeepsSize (length s0.bytes) (meant fm i arguments s0 f0) → ⊥
+pub never_larger : (fm : Module) (c : IsChecked fm) (i : ℕ) (arguments : List ℕ) (q : Fits fm i arguments) (s0 : Store) (f0 : ℕ) (k : Stack)
+    (s : Store) (f : ℕ)
+    → Stays fm k s f (meant fm i arguments s0 f0) → length s0.bytes ≤ length s.bytes → LargerStep (length s.bytes) (step_in fm k s f)
+        → KeepsSize (length s0.bytes) (meant fm i arguments s0 f0) → ⊥
 never_larger fm c i arguments q s0 f0 k s f x le lt size =
     let r = meant fm i arguments s0 f0 in
     let ok = is_fine fm c i arguments q s0 f0 in
@@ -131,9 +140,11 @@ never_larger fm c i arguments q s0 f0 k s f x le lt size =
     (keeps (nested_module fm) fm (same_of fm c) k.func k.position k.base k.depth k.values k.labels k.callers s f r ok x)
 
 -- a step at an instruction, with a unit
-pub step_is : (fm : Module) (k : Stack) (s : Store) (f g : ℕ) (fl : Func) (x : Instr) → slice_get fm.funcs k.func ≡ Some fl → slice_get fl.body k.position ≡ Some x → f ≡ suc g → step_in fm k s f ≡ executing_in fm x k s g
+pub step_is : (fm : Module) (k : Stack) (s : Store) (f g : ℕ) (fl : Func) (x : Instr) → slice_get fm.funcs k.func ≡ Some fl
+    → slice_get fl.body k.position ≡ Some x → f ≡ suc g → step_in fm k s f ≡ executing_in fm x k s g
 step_is fm k s f g fl x has at e =
-    ap (λ o. where_found o (λ (fl : Func). executing (nested_module fm) fm (slice_get fl.body k.position) k.func k.position k.base k.depth k.values k.labels k.callers s f)) has
+    ap (λ o. where_found o (λ (fl : Func). executing (nested_module fm) fm (slice_get fl.body k.position) k.func k.position k.base k.depth
+        k.values k.labels k.callers s f)) has
     ∙ ap (λ o. executing (nested_module fm) fm o k.func k.position k.base k.depth k.values k.labels k.callers s f) at
     ∙ ap (λ f. executing (nested_module fm) fm (Some x) k.func k.position k.base k.depth k.values k.labels k.callers s f) e
 
@@ -142,7 +153,8 @@ step_is fm k s f g fl x has at e =
 pub leaves_first : (fm : Module) (pool : Tables) (i : Instance) → Stands fm pool i → Leaves fm pool pool i i
 leaves_first fm pool i x = record { made = x.made; there = x.there; table = refl; others = λ u ne. refl; unshared = λ t h. h }
 
-pub leaves_more : (fm : Module) (one two three : Tables) (i j k : Instance) → Leaves fm one two i j → Leaves fm two three j k → Leaves fm one three i k
+pub leaves_more : (fm : Module) (one two three : Tables) (i j k : Instance) → Leaves fm one two i j → Leaves fm two three j k
+    → Leaves fm one three i k
 leaves_more fm one two three i j k x y = record {
   made = y.made;
   there = y.there;

@@ -34,12 +34,14 @@ by_function : (m : Module) (index : ℕ) (o : Option Function) → function_at (
 by_function m index None is h = cc h
 by_function m index (Some f) is h = record { f = f; is = is; fit = empty_fits f.ty.params f.ty.results h }
 
-can_start_is : (m : NestedModule) (index : ℕ) (b : Bool) → can_start (type_of_function m index) ≡ b → failing_start m (Some index) ≡ None → b ≡ true
+can_start_is : (m : NestedModule) (index : ℕ) (b : Bool) → can_start (type_of_function m index) ≡ b → failing_start m (Some index) ≡ None
+    → b ≡ true
 can_start_is m index true is h = refl
 can_start_is m index false is h = absurd (let wrong : Some 0 ≡ None = sym (ap (λ b. if b then None else Some 0) is) ∙ h in cc)
 
 pub start_fits : (m : Module) (index : ℕ) → IsValid (nested_module m) → m.start ≡ Some index → Fits m index []
 start_fits m index valid is =
-    let passes : failing_start (nested_module m) (Some index) ≡ None = subst (λ o. failing_start (nested_module m) o ≡ None) is (start_passes (nested_module m) valid) in
+    let passes : failing_start (nested_module m) (Some index) ≡ None = subst (λ o. failing_start (nested_module m) o ≡ None) is
+        (start_passes (nested_module m) valid) in
     let can = can_start_is (nested_module m) index (can_start (type_of_function (nested_module m) index)) refl passes in
     by_function m index (function_at (nested_module m) index) refl can

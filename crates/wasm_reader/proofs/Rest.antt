@@ -40,7 +40,8 @@ falls_is last kind.Data = refl
 abbrev sections_then : ℕ → Before → List ℕ → Section × ℕ → Read (List Section)
 sections_then n s b x = sections_at n (after x.0 s) b x.1 >>= with_section x.0
 
-put_first : (p : Sofar) (x : Section) (r : Read (List Section)) → ends_in p (r >>= with_section x) ≡ ends_in (with_part (flat_section x) p) r
+put_first : (p : Sofar) (x : Section) (r : Read (List Section)) → ends_in p (r >>= with_section x) ≡ ends_in (with_part (flat_section x) p)
+    r
 put_first p x (Ok xs) = refl
 put_first p x (Err e) = refl
 
@@ -66,7 +67,8 @@ part_is (Ok p) y next h =
     let place : p.1 ≡ next = ap (λ (q : Part × ℕ). q.1) same in
     (p.0, ap (λ (n : ℕ). Ok (p.0, n)) place, ap (λ (q : Part × ℕ). q.0) same)
 
-part_fails : (r : Read Section) (e : Fault) (f : Section × ℕ → Read (List Section)) (p : Sofar) → Fails e (flat_part r) → Fails e (ends_in p (r >>= f))
+part_fails : (r : Read Section) (e : Fault) (f : Section × ℕ → Read (List Section)) (p : Sofar) → Fails e (flat_part r)
+    → Fails e (ends_in p (r >>= f))
 part_fails r fault.Memory f p h = tt
 part_fails r e f p h = fails_of e (ends_in p (r >>= f)) (ap (λ r. ends_in p (r >>= f)) (is_err r h))
   where
@@ -75,13 +77,15 @@ part_fails r e f p h = fails_of e (ends_in p (r >>= f)) (ap (λ r. ends_in p (r 
     is_err (Err d) h = let same : d ≡ e = cc in ap (λ d. Err d) same
 
 module _ (b : List ℕ) (p : Sofar) (left i place : ℕ) (total : Result Sofar Fault) where
-  one_more : i < left → place < length b → sections_at (left - i) (before_of p) b place ≡ section_at (before_of p) b place >>= sections_then (left - (i + 1)) (before_of p) b
+  one_more : i < left → place < length b → sections_at (left - i) (before_of p) b place ≡ section_at (before_of p) b place >>= sections_then
+      (left - (i + 1)) (before_of p) b
   unfolding sections_at
   one_more lt within =
       let k : left - i ≡ suc (left - (i + 1)) = omega arith in
       let made : List Section × ℕ = ([], place) in
       ap (λ n. sections_at n (before_of p) b place) k
-      ∙ ap (λ t. cond t (section_at (before_of p) b place >>= sections_then (left - (i + 1)) (before_of p) b) (Ok made)) (lt-ltb place (length b) within)
+      ∙ ap (λ t. cond t (section_at (before_of p) b place >>= sections_then (left - (i + 1)) (before_of p) b) (Ok made))
+          (lt-ltb place (length b) within)
 
   goes_on : (y : Part) (next : ℕ) → i < left → place < length b → flat_part (section_at (before_of p) b place) ≡ Ok (y, next)
       → ends_in p (sections_at (left - i) (before_of p) b place) ≡ total
@@ -110,7 +114,8 @@ module _ (b : List ℕ) (p : Sofar) (left i place : ℕ) (total : Result Sofar F
 
       none : (n : ℕ) → sections_at n (before_of p) b place ≡ Ok made
       none zero = refl
-      none (suc n) = ap (λ t. cond t (section_at (before_of p) b place >>= sections_then n (before_of p) b) (Ok made)) (le-ltb place (length b) past)
+      none (suc n) = ap (λ t. cond t (section_at (before_of p) b place >>= sections_then n (before_of p) b) (Ok made))
+          (le-ltb place (length b) past)
 
   pub runs_out : left ≤ i → ends_in p (sections_at (left - i) (before_of p) b place) ≡ total → total ≡ Ok p
   unfolding sections_at
@@ -118,11 +123,13 @@ module _ (b : List ℕ) (p : Sofar) (left i place : ℕ) (total : Result Sofar F
       let k : left - i ≡ 0 = omega arith in
       sym so_far ∙ ap (λ n. ends_in p (sections_at n (before_of p) b place)) k
 
-pub put_on : (b : List ℕ) (p q : Sofar) (left i place : ℕ) (total : Result Sofar Fault) (y : Part) (next : ℕ) → q ≡ with_part y p → i < left → place < length b
+pub put_on : (b : List ℕ) (p q : Sofar) (left i place : ℕ) (total : Result Sofar Fault) (y : Part) (next : ℕ) → q ≡ with_part y p → i < left
+    → place < length b
     → flat_part (section_at (before_of p) b place) ≡ Ok (y, next) → ends_in p (sections_at (left - i) (before_of p) b place) ≡ total
     → ends_in q (sections_at (left - (i + 1)) (before_of q) b next) ≡ total
 put_on b p q left i place total y next is lt within h so_far =
-    subst (λ (q : Sofar). ends_in q (sections_at (left - (i + 1)) (before_of q) b next) ≡ total) (sym is) (goes_on b p left i place total y next lt within h so_far)
+    subst (λ (q : Sofar). ends_in q (sections_at (left - (i + 1)) (before_of q) b next) ≡ total) (sym is)
+        (goes_on b p left i place total y next lt within h so_far)
 
 -- ---- the module
 
@@ -146,30 +153,36 @@ all_put (Elements elements ∷ xs) last indices m = all_put xs kind.Element indi
 all_put (Codes funcs ∷ xs) last indices m = all_put xs kind.Code indices (record m { funcs = funcs })
 all_put (Datas datas ∷ xs) last indices m = all_put xs kind.Data indices (record m { datas = datas })
 
-pub rest_is : (b : List ℕ) (at : ℕ) → flat_whole (rest_at b at) ≡ ends_in nothing (sections_at (length b) start b at) >>= finished (length b)
+pub rest_is : (b : List ℕ) (at : ℕ) → flat_whole (rest_at b at) ≡ ends_in nothing (sections_at (length b) start b at) >>= finished
+    (length b)
 unfolding rest_at
 rest_is b at = by_read (sections_at (length b) start b at)
   where
-    by_test : (t : Bool) (m : NestedModule) → flat_whole (refuse_if t (fault.Count (length b)) >>= λ fine. Ok m) ≡ refuse_if t (fault.Count (length b)) >>= λ fine. Ok (flat_module m)
+    by_test : (t : Bool) (m : NestedModule) → flat_whole (refuse_if t (fault.Count (length b)) >>= λ fine. Ok m) ≡ refuse_if t
+        (fault.Count (length b)) >>= λ fine. Ok (flat_module m)
     by_test true m = refl
     by_test false m = refl
 
-    by_read : (r : Read (List Section)) → flat_whole (r >>= λ xs. refuse_if (lacks_bodies xs.0) (fault.Count (length b)) >>= λ fine. Ok (module_of xs.0)) ≡ ends_in nothing r >>= finished (length b)
+    by_read : (r : Read (List Section)) → flat_whole (r >>= λ xs. refuse_if (lacks_bodies xs.0) (fault.Count (length b)) >>= λ fine. Ok
+        (module_of xs.0)) ≡ ends_in nothing r >>= finished (length b)
     by_read (Err e) = refl
     by_read (Ok xs) =
         let m = module_of xs.0 in
         let indices = declared xs.0 [] in
         let h = all_put xs.0 kind.Custom [] empty in
         by_test (lacks_bodies xs.0) m
-        ∙ ap (λ n. refuse_if (not (eqb n (length indices))) (fault.Count (length b)) >>= λ fine. Ok (flat_module m)) (sym (length-map m.funcs flat_func))
+        ∙ ap (λ n. refuse_if (not (eqb n (length indices))) (fault.Count (length b)) >>= λ fine. Ok (flat_module m))
+            (sym (length-map m.funcs flat_func))
         ∙ ap (finished (length b)) (sym h.1)
 
 -- what stands behind the header is read as its sections make it
-pub finishes : (b : List ℕ) (at : ℕ) (p : Sofar) (r : Result Module Fault) → r ≡ finished (length b) p → ends_in nothing (sections_at (length b) start b at) ≡ Ok p
+pub finishes : (b : List ℕ) (at : ℕ) (p : Sofar) (r : Result Module Fault) → r ≡ finished (length b) p
+    → ends_in nothing (sections_at (length b) start b at) ≡ Ok p
     → Gives (λ m. m) r (flat_whole (rest_at b at))
 finishes b at p r is h = gives_same r (flat_whole (rest_at b at)) (rest_is b at ∙ ap (λ r. r >>= finished (length b)) h ∙ sym is)
 
-pub no_sections : (b : List ℕ) (at : ℕ) (e : Fault) → Fails e (ends_in nothing (sections_at (length b) start b at)) → Fails e (flat_whole (rest_at b at))
+pub no_sections : (b : List ℕ) (at : ℕ) (e : Fault) → Fails e (ends_in nothing (sections_at (length b) start b at))
+    → Fails e (flat_whole (rest_at b at))
 no_sections b at fault.Memory h = tt
 no_sections b at e h = fails_of e (flat_whole (rest_at b at)) (rest_is b at ∙ ap (λ r. r >>= finished (length b)) h)
 

@@ -55,9 +55,11 @@ module _ (b : List ℕ) where
   pub is_found : IsBytes b → (m : Module) → flat_whole (module_read b) ≡ Ok m → (n : NestedModule) × (m ≡ flat_module n) × SpellsModule n b
   is_found fits m h = by_read (module_read b) refl h
     where
-      by_read : (read : Result NestedModule Fault) → module_read b ≡ read → flat_whole read ≡ Ok m → (n : NestedModule) × (m ≡ flat_module n) × SpellsModule n b
+      by_read : (read : Result NestedModule Fault) → module_read b ≡ read → flat_whole read ≡ Ok m
+          → (n : NestedModule) × (m ≡ flat_module n) × SpellsModule n b
       by_read (Err e) is h = absurd cc
       by_read (Ok n) is h = (n, sym (ok_is (flat_module n) m h), module_here tell n b fits is)
 
-  pub is_read : (result : Result Module ReadError) → Returns result (outcome_of (module_read b)) → (n : NestedModule) → SpellsModule n b → Returns result (Ok (flat_module n))
+  pub is_read : (result : Result Module ReadError) → Returns result (outcome_of (module_read b)) → (n : NestedModule) → SpellsModule n b
+      → Returns result (Ok (flat_module n))
   is_read result h n s = subst (Returns result) (ap outcome_of (module_again tell n b s)) h

@@ -58,7 +58,8 @@ returns-in-Err-Unread g c = record {
       },
     );
     spared = search rules;
-    named = named_main (Call (meant_call c.args.words.now)) c.args.words.now.file.now _ refl (c.fetch.ensures.named (c.in-Err-Unread.is ∙ ap (λ x. Err x) c.in-Err-Unread.field-0-is));
+    named = named_main (Call (meant_call c.args.words.now)) c.args.words.now.file.now _ refl
+        (c.fetch.ensures.named (c.in-Err-Unread.is ∙ ap (λ x. Err x) c.in-Err-Unread.field-0-is));
     caused = search rules;
     form = search rules;
   };
@@ -75,14 +76,16 @@ returns-in-Err-Size g c = record {
           refl,
           record {
             answer = inr (c.refused.ensures ∙ ap (call_status (meant_call c.args.words.now)) fault);
-            whole = inr (subst (λ read. WritesAll g.O.Sink c.args.out.now c.args.out.now (call_lines (meant_call c.args.words.now) read)) fault (writes_nothing g.O.Sink c.args.out.now));
+            whole = inr (subst (λ read. WritesAll g.O.Sink c.args.out.now c.args.out.now (call_lines (meant_call c.args.words.now) read))
+                fault (writes_nothing g.O.Sink c.args.out.now));
             broken = λ e. let wrong : Refused (main_refusal Size most_bytes) ≡ Unwritten = sym c.refused.ensures ∙ e in absurd cc;
             stopped = λ e. let wrong : Refused (main_refusal Size most_bytes) ≡ Memory = sym c.refused.ensures ∙ e in absurd cc;
             named = λ file e. let wrong : Refused (main_refusal Size most_bytes) ≡ Unread file = sym c.refused.ensures ∙ e in absurd cc;
           },
         );
     spared = search rules;
-    named = λ file name e in_words. let wrong : Refused (main_refusal Size most_bytes) ≡ Unread file = sym c.refused.ensures ∙ e in absurd cc;
+    named = λ file name e in_words. let wrong : Refused (main_refusal Size most_bytes) ≡ Unread file = sym c.refused.ensures
+        ∙ e in absurd cc;
     caused = search rules;
     form = search rules;
   };

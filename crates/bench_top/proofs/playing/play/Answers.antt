@@ -22,7 +22,8 @@ returns-in-Ok g c = record {
         let read : length c.in-Ok.bytes.items ≤ file_limit = c.in-Ok.ensures.within in
         let within : length bytes ≤ file_limit = subst (λ (l : List ℕ). length l ≤ file_limit) (sym c.deref.ensures.value) read in (
           deed_of event_budget c.args.file.now (placed (walk bytes)),
-          done_as file_limit event_budget c.args.file.now held (placed (walk bytes)) (read_as file_limit (held c.args.file.now) bytes same within),
+          done_as file_limit event_budget c.args.file.now held (placed (walk bytes))
+              (read_as file_limit (held c.args.file.now) bytes same within),
           record {
             answer = c.play_bytes.ensures.answer (walk bytes) (walk_exact bytes);
             whole = c.play_bytes.ensures.whole (walk bytes) (walk_exact bytes);
@@ -57,7 +58,8 @@ returns-in-Err-Unread g c = record {
           },
         );
     spared = search rules;
-    named = named_main (Play c.args.file.now) c.args.file.now _ refl (c.fetch.ensures.named (c.in-Err-Unread.is ∙ ap (λ x. Err x) c.in-Err-Unread.field-0-is));
+    named = named_main (Play c.args.file.now) c.args.file.now _ refl
+        (c.fetch.ensures.named (c.in-Err-Unread.is ∙ ap (λ x. Err x) c.in-Err-Unread.field-0-is));
     caused = search rules;
     form = search rules;
   };
@@ -68,7 +70,8 @@ returns-in-Err-Size g c = record {
   carries = record {
     carried = λ held h. (
       deed_of event_budget c.args.file.now (Err (main_refusal Size file_limit)),
-      done_as file_limit event_budget c.args.file.now held (Err (main_refusal Size file_limit)) (TooLong (c.fetch.ensures.size (c.in-Err-Size.is ∙ ap (λ x. Err x) c.in-Err-Size.field-0-is) held h)),
+      done_as file_limit event_budget c.args.file.now held (Err (main_refusal Size file_limit))
+          (TooLong (c.fetch.ensures.size (c.in-Err-Size.is ∙ ap (λ x. Err x) c.in-Err-Size.field-0-is) held h)),
       record {
         answer = inr c.refused.ensures;
         whole = inr (writes_nothing g.O.Sink c.args.out.now);
@@ -78,7 +81,8 @@ returns-in-Err-Size g c = record {
       },
     );
     spared = search rules;
-    named = λ file name e in_words. let wrong : Refused (main_refusal Size file_limit) ≡ Unread file = sym c.refused.ensures ∙ e in absurd cc;
+    named = λ file name e in_words. let wrong : Refused (main_refusal Size file_limit) ≡ Unread file = sym c.refused.ensures
+        ∙ e in absurd cc;
     caused = search rules;
     form = search rules;
   };
