@@ -82,10 +82,10 @@ is-asked held net (DescriptionOf place) name stops is =
     let low = within (network_file_of (held (network_file_name net))) place node.0 node.1 in
     Contains-append_right (asked_at held net Main) _ _
     (in-nodes held net _ (nodes_of (network_file_of (held (network_file_name net)))) 0 place (omega arith) (omega (arith, low))
-        (inl (at-place held net (DescriptionOf place) name stops is)))
+    (inl (at-place held net (DescriptionOf place) name stops is)))
 is-asked held net (ModuleOf place) name stops is =
     let node = there (node_in held net place) (module_at held net) name is in
     let low = within (network_file_of (held (network_file_name net))) place node.0 node.1 in
     Contains-append_right (asked_at held net Main) _ _
     (in-nodes held net _ (nodes_of (network_file_of (held (network_file_name net)))) 0 place (omega arith) (omega (arith, low))
-        (inr (at-place held net (ModuleOf place) name stops is)))
+    (inr (at-place held net (ModuleOf place) name stops is)))

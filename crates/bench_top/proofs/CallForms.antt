@@ -18,7 +18,7 @@ behind_three file name fuel words n is there =
       ap (λ o. option_map Call (option_and_then (λ fuel. option_map (λ arguments. record
           { file = file; name = name; fuel = fuel; arguments = arguments }) (arguments_of_words words)) o)) is
           ∙ ap (λ o. option_map Call (option_map (λ arguments. record { file = file; name = name; fuel = n; arguments = arguments }) o))
-              arguments.1,
+          arguments.1,
     )
 
 -- three words and more, of which the third is fuel and those behind are arguments

@@ -21,7 +21,7 @@ pub over_limit : (b : List ℕ) → most_bytes < length b → module_read b ≡ 
 unfolding module_read
 over_limit b over =
     ap (λ t. refuse_if t (fault.Size most_bytes) >>= λ small. (refuse_if (differs b 0 magic) (fault.Magic 0) >>= λ wasm. refuse_if
-        (differs b 4 version) (fault.Version 4) >>= λ first. rest_at b 8))
+    (differs b 4 version) (fault.Version 4) >>= λ first. rest_at b 8))
     (lt-ltb most_bytes (length b) over)
 
 -- the line of the valid module that was read is all that is to be written
@@ -36,4 +36,4 @@ pub one_call : (words : CallWords) (line : List ℕ) (read : Result NestedModule
     → line ∷ [] ≡ call_lines words read
 one_call words line read is =
     ap (λ l. l ∷ []) is.5 ∙ sym (ap (called_lines words is.0) is.4) ∙ sym (ap (checked_lines words is.0) is.3)
-        ∙ sym (ap (call_lines words) is.2)
+    ∙ sym (ap (call_lines words) is.2)

@@ -70,7 +70,7 @@ untold read = unaccepted read_lines (λ fault. refl) (λ m i e. ap (valid_lines 
 pub uncalled : (words : CallWords) (read : Result NestedModule Fault) (error : CallError)
     → ((e : ReadError) → error ≡ call.Module (report.Read e) → Faulty read e)
     → ((rule : Rule) (place at : ℕ) → error ≡ call.Module (report.Invalid (invalid_error.Rule rule place at))
-        → Invalid_at read rule place at)
+    → Invalid_at read rule place at)
     → ((fault : CallFault) → error ≡ call.Call fault → Uncalled words read fault)
     → Silent (uncalled_status error) (call_lines words read)
 uncalled words read (call.Module error) fault invalid refused =

@@ -114,4 +114,4 @@ pub comes_to : (m : NestedModule) → IsValid m → (f : Function) (there : IsTh
 comes_to m valid f there arguments s fuel fit =
     subst (λ (t : FuncType). AnswersWith (reverse t.results) (answer_of m there.index arguments s fuel)) there.ty
     (answers m valid there.index there.function arguments s fuel there.found
-        (subst (λ (t : FuncType). Fit t.params arguments) (sym there.ty) fit))
+    (subst (λ (t : FuncType). Fit t.params arguments) (sym there.ty) fit))

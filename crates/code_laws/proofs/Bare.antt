@@ -62,7 +62,7 @@ one_shows (v ∷ vs) go to h = h v vs
 
 i32_shows : (vs : List Value) (go : ℕ → List Value → Effect Value) (to : ℕ → List ℕ → Effect ℕ)
     → ((n : ℕ) (below : List Value) → Shows (go n below) (to n (all_bits below)))
-        → Shows (on_i32 typed vs go) (on_i32 bare (all_bits vs) to)
+    → Shows (on_i32 typed vs go) (on_i32 bare (all_bits vs) to)
 i32_shows vs go to h =
     split_shows (I32 ∷ []) vs (λ top below. on_one top (λ v none. go v.bits below)) (λ top below. on_one top (λ v none. to v below))
     (λ p. one_shows p.top (λ v none. go v.bits p.below) (λ v none. to v (all_bits p.below)) (λ v none. h v.bits p.below))
@@ -83,7 +83,7 @@ meaning_shows : (ts : List ValType) (below : List Value) (m : Meaning)
     → Shows (after_meaning typed ts below m) (after_meaning bare ts (all_bits below) m)
 meaning_shows ts below (Ok c) =
     ap (λ l. continued l) (ap (λ l. l ++ all_bits below) (sym (results_bits ts c.number))
-        ∙ sym (bits_append (results typed ts c.number) below))
+    ∙ sym (bits_append (results typed ts c.number) below))
   where
     continued : List ℕ → Effect ℕ
     continued l = Continues l c.store
@@ -94,9 +94,9 @@ plain_shows : (m : NestedModule) (i : Instr) (g : Option Signature) (vs : List V
 plain_shows m i None vs s = tt
 plain_shows m i (Some g) vs s =
     split_shows g.takes vs (λ top below. after_meaning typed g.gives below (meaning_of m i (map bits_of top) s))
-        (λ top below. after_meaning bare g.gives below (meaning_of m i (map (λ n. n) top) s))
+    (λ top below. after_meaning bare g.gives below (meaning_of m i (map (λ n. n) top) s))
     (λ p. subst (λ ns. Shows (after_meaning typed g.gives p.below (meaning_of m i (all_bits p.top) s))
-        (after_meaning bare g.gives (all_bits p.below) (meaning_of m i ns s))) (sym (same_numbers (all_bits p.top)))
+    (after_meaning bare g.gives (all_bits p.below) (meaning_of m i ns s))) (sym (same_numbers (all_bits p.top)))
     (meaning_shows g.gives p.below (meaning_of m i (all_bits p.top) s)))
 
 branch_shows : (b : Bool) (label : ℕ) (below : List Value) (s : Store)
@@ -118,7 +118,7 @@ selection_shows n [] s = tt
 selection_shows n (v ∷ []) s = tt
 selection_shows n (upper ∷ lower ∷ below) s =
     alike_shows (is_same lower.ty upper.ty) (Continues (cond (n == 0) upper lower ∷ below) s)
-        (Continues (cond (n == 0) upper.bits lower.bits ∷ all_bits below) s)
+    (Continues (cond (n == 0) upper.bits lower.bits ∷ all_bits below) s)
     (picked_shows (n == 0) upper lower below s)
 
 checked_shows : (index : ℕ) (asked has : Option FuncType) (below : List Value)
@@ -141,9 +141,9 @@ indirect_shows m ty (Some (Some index)) below = checked_shows index (slice_get m
 
 local_shows : (get set : Bool) (index : ℕ) (vs : List Value)
     → Shows (cond get (ReadsLocal index vs) (cond set (on_one vs (λ v below. WritesLocal index v below))
-        (on_one vs (λ v below. WritesLocal index v vs))))
+    (on_one vs (λ v below. WritesLocal index v vs))))
     (cond get (ReadsLocal index (all_bits vs)) (cond set (on_one (all_bits vs) (λ v below. WritesLocal index v below))
-        (on_one (all_bits vs) (λ v below. WritesLocal index v (all_bits vs)))))
+    (on_one (all_bits vs) (λ v below. WritesLocal index v (all_bits vs)))))
 local_shows true set index vs = refl
 local_shows false true index vs = one_shows vs (λ v below. WritesLocal index v below) (λ v below. WritesLocal index v below)
     (λ v below. refl)
@@ -162,7 +162,7 @@ shows m Return vs s = refl
 shows m (Call index) vs s = refl
 shows m (CallIndirect ty) vs s =
     i32_shows vs (λ n below. indirect_call m ty (slice_get (table_of m) n) below)
-        (λ n below. indirect_call m ty (slice_get (table_of m) n) below) (λ n below. indirect_shows m ty (slice_get (table_of m) n) below)
+    (λ n below. indirect_call m ty (slice_get (table_of m) n) below) (λ n below. indirect_shows m ty (slice_get (table_of m) n) below)
 shows m Drop vs s = one_shows vs (λ v below. Continues below s) (λ v below. Continues below s) (λ v below. refl)
 shows m Select vs s = i32_shows vs (λ n below. selection typed n below s) (λ n below. selection bare n below s)
     (λ n below. selection_shows n below s)

@@ -116,7 +116,7 @@ branch_if_good c label ts s e vs st there is h =
     let k = t.one in
     let a = t.others in
     let same = subst (λ l. Reached e l) (sym a.whole) (subst (λ e. Reached e (a.parts.top ++ a.parts.below))
-        (ok_is (with_operands ts x.it) e x.then) (on_top ts x.it a.parts.top a.parts.below a.are a.reached)) in
+    (ok_is (with_operands ts x.it) e x.then) (on_top ts x.it a.parts.top a.parts.below a.are a.reached)) in
     i32_good c e t.middle vs (λ condition below. branch_if condition label below st) k
     (chosen_good c e (k.v.bits == 0) (Continues k.rest st) (Branches label k.rest) same (ts, there, top_of ts x.it k.rest a))
 
@@ -137,9 +137,9 @@ picked c (label ∷ labels) default ts others index is same there =
     let x = passed (known (slice_get c.labels label)) (λ us. label_types c labels >>= λ others. Ok (us ∷ others)) others is in
     let y = passed (label_types c labels) (λ others. Ok (x.it ∷ others)) others x.then in
     let w = both (is_same_list ts x.it) (list_all (is_same_list ts) y.it)
-        (subst (λ l. list_all (is_same_list ts) l ≡ true) (sym (ok_is (x.it ∷ y.it) others y.then)) same) in
+    (subst (λ l. list_all (is_same_list ts) l ≡ true) (sym (ok_is (x.it ∷ y.it) others y.then)) same) in
     by_index index (known_is (slice_get c.labels label) x.it x.is ∙ ap Some (sym (same_list_is ts x.it w.0)))
-        (λ i. picked c labels default ts y.it i y.is w.1 there)
+    (λ i. picked c labels default ts y.it i y.is w.1 there)
   where
     by_index : (index : ℕ) → slice_get c.labels label ≡ Some ts → ((i : ℕ) → slice_get c.labels (slice_index_or labels i default) ≡ Some ts)
         → slice_get c.labels (slice_index_or (label ∷ labels) index default) ≡ Some ts
@@ -155,9 +155,12 @@ table_good c labels default s e vs is h =
     let z = passed (below I32 s) _ e y.then in
     let w = passed (needs (list_all (is_same_list y.it) x.it) Operand) _ e z.then in
     let k = below_is I32 s z.it vs z.is h in
-    i32_good c e z.it vs (λ index below. Branches (slice_index_or labels index default) below) k
-    (y.it, picked c labels default y.it x.it k.v.bits x.is (needed (list_all (is_same_list y.it) x.it) Operand w.it w.is)
-        (known_is (slice_get c.labels default) y.it y.is), never_good c y.it z.it e k.rest w.then k.reached)
+    i32_good c e z.it vs (λ index below. Branches (slice_index_or labels index default) below) k (
+      y.it,
+      picked c labels default y.it x.it k.v.bits x.is (needed (list_all (is_same_list y.it) x.it) Operand w.it w.is)
+          (known_is (slice_get c.labels default) y.it y.is),
+      never_good c y.it z.it e k.rest w.then k.reached,
+    )
 
 callable : (f : FuncType) (s e : OperandTypes) (vs : List Value) → through (signature_of_type f) s ≡ Ok e → Reached s vs → Callable f e vs
 unfolding top_of
@@ -208,7 +211,7 @@ call_indirect_good c known_table ty f s e vs there is h =
     let rest_is = subst (λ o. (o >>= λ rest. Ok (with_operands (reverse f.results) rest)) ≡ Ok e) (sym y.then) x.then in
     i32_good c e y.it vs (λ index below. indirect_call c.parts ty (slice_get (table_of c.parts) index) below) k
     (indirect_good c known_table ty k.v.bits (slice_get (table_of c.parts) k.v.bits) f e k.rest refl there
-        (callable f y.it e k.rest rest_is k.reached))
+    (callable f y.it e k.rest rest_is k.reached))
 
 drop_good : (c : Context) (s e : OperandTypes) (vs : List Value) (st : Store)
     → (top_operand s >>= λ p. Ok p.rest) ≡ Ok e → Reached s vs → GoodEffect c e (on_one vs (λ v below. Continues below st))
@@ -250,7 +253,7 @@ select_good c s e vs st is h =
     let l = popped_is y.it.rest z.it u.rest z.is u.reached in
     let w = passed (common y.it.ty z.it.ty) _ e z.then in
     let both_types = common_is u.ty l.ty w.it (subst (λ o. common (Some u.ty) o ≡ Ok w.it) l.known
-        (subst (λ o. common o z.it.ty ≡ Ok w.it) u.known w.is)) in
+    (subst (λ o. common o z.it.ty ≡ Ok w.it) u.known w.is)) in
     let last = ap (λ t. with_operand t z.it.rest) both_types.1 ∙ ok_is (with_operand w.it z.it.rest) e w.then in
     i32_good c e x.it vs (λ condition below. selection typed condition below st) k
     (subst (λ (vs : List Value). GoodEffect c e (selection typed k.v.bits vs st)) (sym (u.is ∙ ap (λ (vs : List Value). u.v ∷ vs) l.is))
@@ -287,7 +290,7 @@ tee_good c index t s e vs there is h =
     let x = passed (below_all (t ∷ []) s) (λ rest. Ok (with_operand (Some t) rest)) e is in
     let k = single t s x.it vs x.is h in
     let again = subst (λ e. Reached e (k.v ∷ k.rest)) (ok_is (with_operand (Some t) x.it) e x.then)
-        (on_top (t ∷ []) x.it (k.v ∷ []) k.rest (k.has, tt) k.reached) in
+    (on_top (t ∷ []) x.it (k.v ∷ []) k.rest (k.has, tt) k.reached) in
     subst (λ (l : List Value). GoodEffect c e (on_one l (λ v below. WritesLocal index v vs))) (sym k.is)
     (t, there, k.has, subst (λ (l : List Value). Reached e l) (sym k.is) again)
 
@@ -295,7 +298,7 @@ local_good : (c : Context) (get set : Bool) (index : ℕ) (t : ValType) (s e : O
     → slice_get c.locals index ≡ Some t
     → through (cond get (sig [] (t ∷ [])) (cond set (sig (t ∷ []) []) (sig (t ∷ []) (t ∷ [])))) s ≡ Ok e → Reached s vs
     → GoodEffect c e (cond get (ReadsLocal index vs) (cond set (on_one vs (λ v below. WritesLocal index v below))
-        (on_one vs (λ v below. WritesLocal index v vs))))
+    (on_one vs (λ v below. WritesLocal index v vs))))
 local_good c true set index t s e vs there is h = get_good c index t s e vs there is h
 local_good c false true index t s e vs there is h = set_good c index t s e vs there is h
 local_good c false false index t s e vs there is h = tee_good c index t s e vs there is h

@@ -22,7 +22,7 @@ no_fewer [] (suc address) new = omega arith
 no_fewer (b ∷ bytes) (suc address) new =
     let shift : suc address + length new ≡ suc (address + length new) = omega arith in
     subst (λ (n : ℕ). length (b ∷ bytes) ≤ length (replaced_at_from b bytes address new n)) (sym shift)
-        (omega (arith, no_fewer bytes address new))
+    (omega (arith, no_fewer bytes address new))
   where
     replaced_at_from : ℕ → List ℕ → ℕ → List ℕ → ℕ → List ℕ
     replaced_at_from b bytes address new n = b ∷ (take address bytes ++ (new ++ drop n (b ∷ bytes)))
@@ -33,8 +33,11 @@ store_bytes count address new s None h = tt
 store_bytes count address new s (Some old) h = omega (arith, h, no_fewer s.bytes address new)
 
 grow_bytes : (count more : ℕ) (s : Store) (b : Bool) → HasBytes count s
-    → KeepsMeaning (HasBytes count) (cond b (Ok (record { number = pages s; store = record s
-        { bytes = s.bytes ++ replicate (more * page_size) 0 } })) (Ok (record { number = unsigned 32 (negsuc 0); store = s })))
+    → KeepsMeaning (HasBytes count) (cond b (Ok (record {
+      number = pages s;
+      store = record s
+          { bytes = s.bytes ++ replicate (more * page_size) 0 };
+    })) (Ok (record { number = unsigned 32 (negsuc 0); store = s })))
 grow_bytes count more s true h = omega (arith, h, length-append s.bytes (replicate (more * page_size) 0))
 grow_bytes count more s false h = h
 
@@ -58,4 +61,4 @@ pub never_shrinks : (m : NestedModule) (index : ℕ) (arguments : List ℕ) (s :
     → LeavesBytes (length s.bytes) (answer_of m index arguments s fuel)
 never_shrinks m index arguments s fuel =
     kept (HasBytes (length s.bytes)) m (record { by = λ i g numbers t is fits has. bytes_kept m (length s.bytes) i numbers t has }) index
-        arguments s fuel (omega arith)
+    arguments s fuel (omega arith)

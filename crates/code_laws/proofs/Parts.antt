@@ -85,7 +85,7 @@ there m p index lt =
 type_there : (m : NestedModule) (index : ℕ) (t : There m index) → type_of_function m index ≡ Some t.ty
 type_there m index t =
     ap (λ o. option_map (λ (f : Function). f.ty) (option_and_then (λ f. option_map (typed_function f) (slice_get m.types f.ty)) o))
-        t.func_is
+    t.func_is
     ∙ ap (λ o. option_map (λ (f : Function). f.ty) (option_map (typed_function t.func) o)) t.ty_is
 
 -- ---- the table
@@ -137,7 +137,7 @@ AllNamed m es = (i : ℕ) (e : Element) → slice_get es i ≡ Some e → list_a
 named : (m : NestedModule) → Parts m → AllNamed m m.elements
 named m p i e at =
     let x = both (is_some (slice_get m.tables 0)) (is_same I32 e.offset.ty && list_all (λ index. nat_lt index (length m.funcs)) e.funcs)
-        (by_parts (each_passes (is_element m) 0 m.elements p.elements i e at)) in
+    (by_parts (each_passes (is_element m) 0 m.elements p.elements i e at)) in
     (both (is_same I32 e.offset.ty) (list_all (λ index. nat_lt index (length m.funcs)) e.funcs) x.1).1
   where
     regrouped : (a b c : Bool) → (a && b && c) ≡ true → (a && (b && c)) ≡ true
@@ -157,15 +157,15 @@ filled m (e ∷ es) entries names h =
     let new = map Some e.funcs in
     filled m es (replaced_at entries e.offset.value new) (λ i f at. names (suc i) f at)
     (below_append n (take e.offset.value entries) (new ++ drop (e.offset.value + length new) entries)
-        (below_take n e.offset.value entries h)
+    (below_take n e.offset.value entries h)
     (below_append n new (drop (e.offset.value + length new) entries) (below_new n e.funcs (names 0 e refl))
-        (below_drop n (e.offset.value + length new) entries h)))
+    (below_drop n (e.offset.value + length new) entries h)))
 
 pub table_is : (m : NestedModule) → Parts m → HasTable m
 unfolding table_of
 table_is m p at index is =
     let lt = below_at (length m.funcs) (with_elements m.elements (replicate (table_size m) None))
-        (filled m m.elements (replicate (table_size m) None) (named m p) (below_empty (length m.funcs) (table_size m))) at index is in
+    (filled m m.elements (replicate (table_size m) None) (named m p) (below_empty (length m.funcs) (table_size m))) at index is in
     let t = there m p index lt in
     (t.ty, type_there m index t)
 

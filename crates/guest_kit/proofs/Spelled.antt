@@ -94,17 +94,44 @@ constant at = record { ty = I32; value = at }
 data_spelled : (at : ℕ) (bytes : List ℕ) → SpellsConstant (constant at) (constant_text (constant at)) → length bytes < 2 ^ 32
     → SpellsData (segment_at at bytes) (data_text (segment_at at bytes))
 unfolding shortest
-data_spelled at bytes place small =
-    (0 ∷ [], constant_text (constant at) ++ sized_text bytes, refl, u32_spelled 0 (omega arith),
-        (constant_text (constant at), sized_text bytes, refl, place, bytes_spelled bytes small))
+data_spelled at bytes place small = (
+  0 ∷ [],
+  constant_text (constant at) ++ sized_text bytes,
+  refl,
+  u32_spelled 0 (omega arith),
+  (constant_text (constant at), sized_text bytes, refl, place, bytes_spelled bytes small),
+)
 
 at_first : SpellsConstant (constant 0) (constant_text (constant 0))
-at_first = (0x41 ∷ signed_text (pos 0), 0x0B ∷ [], refl, (pos 0, refl, (signed_text (pos 0), refl, signed_spelled 32 (pos 0) (omega arith)
-    (omega arith) (search arith))), refl)
+at_first = (
+  0x41 ∷ signed_text (pos 0),
+  0x0B ∷ [],
+  refl,
+  (
+    pos 0,
+    refl,
+    (
+      signed_text (pos 0),
+      refl,
+      signed_spelled 32 (pos 0) (omega arith)
+          (omega arith) (search arith),
+    ),
+  ),
+  refl,
+)
 
 at_second : SpellsConstant (constant 32768) (constant_text (constant 32768))
-at_second = (0x41 ∷ signed_text (pos 32768), 0x0B ∷ [], refl, (pos 32768, refl,
-    (signed_text (pos 32768), refl, signed_spelled 32 (pos 32768) (omega arith) (omega arith) (search arith))), refl)
+at_second = (
+  0x41 ∷ signed_text (pos 32768),
+  0x0B ∷ [],
+  refl,
+  (
+    pos 32768,
+    refl,
+    (signed_text (pos 32768), refl, signed_spelled 32 (pos 32768) (omega arith) (omega arith) (search arith)),
+  ),
+  refl,
+)
 
 -- ---- how long it is
 
@@ -139,8 +166,19 @@ module _ (numbers opening : List ℕ) (n : length numbers ≤ 168) (o : length o
 
   content_few : length content ≤ 6000
   content_few =
-      omega (arith, n, o, length-append (unsigned_text 2) (one ++ (two ++ [])), unsigned_most 2, length-append one (two ++ []),
-          length-append two [], data_few 0 numbers, data_few 32768 opening, first_few, second_few)
+      omega (
+        arith,
+        n,
+        o,
+        length-append (unsigned_text 2) (one ++ (two ++ [])),
+        unsigned_most 2,
+        length-append one (two ++ []),
+        length-append two [],
+        data_few 0 numbers,
+        data_few 32768 opening,
+        first_few,
+        second_few,
+      )
 
   abbrev pub last : List ℕ
   last = section_text kind.Data content
@@ -162,8 +200,13 @@ module _ (numbers opening : List ℕ) (n : length numbers ≤ 168) (o : length o
               one ++ (two ++ []),
               refl,
               u32_spelled 2 (omega arith),
-              (one, two ++ [], refl, data_spelled 0 numbers at_first (omega (arith, n)),
-                  (two, [], refl, data_spelled 32768 opening at_second (omega (arith, o)), refl)),
+              (
+                one,
+                two ++ [],
+                refl,
+                data_spelled 0 numbers at_first (omega (arith, n)),
+                (two, [], refl, data_spelled 32768 opening at_second (omega (arith, o)), refl),
+              ),
             ),
           ),
         ),
@@ -179,8 +222,20 @@ module _ (numbers opening : List ℕ) (n : length numbers ≤ 168) (o : length o
   bytes = magic ++ (version ++ rest)
 
   pub with_memory : SpellsModule (record program { datas = datas }) bytes
-  with_memory = (rest_few, (rest, refl, (sections ++ Datas datas ∷ [], refl, refl, appended sections start found.text (Datas datas) last
-      found.spelled last_spelled)))
+  with_memory = (
+    rest_few,
+    (
+      rest,
+      refl,
+      (
+        sections ++ Datas datas ∷ [],
+        refl,
+        refl,
+        appended sections start found.text (Datas datas) last
+            found.spelled last_spelled,
+      ),
+    ),
+  )
 
 module _ (m : Manner) (answer opening : List ℕ) (a : length answer ≤ 128) (o : length opening ≤ 4800) where
   pub numbers_few : length (numbers_of m answer opening) ≤ 168

@@ -60,7 +60,7 @@ module _ (b : Bus) (now : ℕ) where
       go None = refl
       go (Some r) = outcome-none r r.fault (hurt_lines b now r.hurt ++ flat_map (state_lines b now r) b.members)
           (none-append (hurt_lines b now r.hurt) (flat_map (state_lines b now r) b.members) (hurt-none r.hurt)
-              (none-flat (state_lines b now r) b.members (states-none r)))
+          (none-flat (state_lines b now r) b.members (states-none r)))
 
   pub recover-none : (node : ℕ) → answered (recover b now node).1 ≡ []
   unfolding recover
@@ -72,7 +72,7 @@ module _ (b : Bus) (now : ℕ) where
     where
       go : (t : Bool) → answered (map (λ r. On now b.setup.number r.node (loser_told b r)) ls) ≡ []
           → answered (On now b.setup.number r.node (if t then LostGone r.frame else LostKept r.frame) ∷ map
-              (λ r. On now b.setup.number r.node (loser_told b r)) ls) ≡ []
+          (λ r. On now b.setup.number r.node (loser_told b r)) ls) ≡ []
       go true h = h
       go false h = h
 
@@ -132,7 +132,7 @@ all-later now from (a ∷ as') h l =
     let m : now < a.moment = omega (arith, h.0, l) in
     let r = all-later now a.moment as' h.1 m in
     let n : (a.moment == now) ≡ false = false_from_ne_true (a.moment == now) (λ t. let s = eqb-true a.moment now t in omega (arith, s, m))
-        in
+    in
     (rw n r.0, rw (lt-ltb now a.moment m) (ap (λ z. a ∷ z) r.1))
 
 module _ (stop : ℕ) where
@@ -147,23 +147,23 @@ module _ (stop : ℕ) where
     where
       go : (t : Bool) → (a.moment == now) ≡ t
           → (Rising now as' → filter (λ a. a.moment == now) as' ++ filter (λ a. nat_le a.moment stop)
-              (filter (λ a. nat_lt now a.moment) as') ≡ filter (λ a. nat_le a.moment stop) as')
+          (filter (λ a. nat_lt now a.moment) as') ≡ filter (λ a. nat_le a.moment stop) as')
           → filter (λ a. a.moment == now) (a ∷ as') ++ filter (λ a. nat_le a.moment stop) (filter (λ a. nat_lt now a.moment) (a ∷ as'))
-              ≡ filter (λ a. nat_le a.moment stop) (a ∷ as')
+          ≡ filter (λ a. nat_le a.moment stop) (a ∷ as')
       go true e on =
           let s : a.moment ≡ now = eqb-true a.moment now e in
           let in-time : nat_le a.moment stop ≡ true = le-leb a.moment stop (omega (arith, s, l)) in
           let not-later : nat_lt now a.moment ≡ false = false_from_ne_true (nat_lt now a.moment)
-              (λ t. let k = ltb-true now a.moment t in omega (arith, s, k)) in
+          (λ t. let k = ltb-true now a.moment t in omega (arith, s, k)) in
           rw (e, not-later, in-time) (ap (λ z. a ∷ z) (on (rising-lower now a.moment as' (omega (arith, s)) h.1)))
       go false e on =
           let m : now < a.moment = apart now a.moment h.0 (λ s. both_ways (a.moment == now) e (eq-eqb a.moment now s)) in
           let r = all-later now a.moment as' h.1 m in
           let first : filter (λ (x : Action). x.moment == now) (a ∷ as') ≡ [] = rw e r.0 in
           let second : filter (λ (x : Action). nat_lt now x.moment) (a ∷ as') ≡ a ∷ as' = (rw (lt-ltb now a.moment m) (ap (λ z. a ∷ z) r.1))
-              in
+          in
           ap (λ z. z ++ filter (λ (x : Action). nat_le x.moment stop) (filter (λ (x : Action). nat_lt now x.moment) (a ∷ as'))) first
-              ∙ ap (filter (λ (x : Action). nat_le x.moment stop)) second
+          ∙ ap (filter (λ (x : Action). nat_le x.moment stop)) second
         where
           apart : (m n : ℕ) → m ≤ n → (n ≡ m → ⊥) → m < n
           apart m n l ne = grind (arith, ne)
@@ -174,7 +174,7 @@ module _ (stop : ℕ) where
   none-up-to from (a ∷ as') h l =
       let m : stop < a.moment = omega (arith, h.0, l) in
       let n : nat_le a.moment stop ≡ false = false_from_ne_true (nat_le a.moment stop)
-          (λ t. let k = leb-true a.moment stop t in omega (arith, k, m)) in
+      (λ t. let k = leb-true a.moment stop t in omega (arith, k, m)) in
       rw n (none-up-to a.moment as' h.1 m)
 
   -- where nothing happens up to the stop, nothing is asked up to it
@@ -221,7 +221,7 @@ module _ (p : Scenario) where
   actions-answered (x ∷ xs) q k h =
       actions-answered xs (along action_step q x) (λ y c. k y (inr c)) (action_step-sound p q.0 x (k x (inl refl)) h)
       ∙ ap (λ l. l ++ map (asked_of p) xs) (filter_map-append asked_in q.1 (action_step q.0 x).1 ∙ ap (λ l. answered q.1 ++ l)
-          (step-answered q.0 x h.setup))
+      (step-answered q.0 x h.setup))
       ∙ append_assoc (answered q.1) (asked_of p x ∷ []) (map (asked_of p) xs)
 
   record Silent (q : Bus × List Line) : Type 0 where
@@ -237,7 +237,7 @@ module _ (p : Scenario) where
         none = none-append q.1 (take_inbox q.0 now n).1 c.none (take-none q.0 now n);
       }) (record { bus = h.bus; none = refl }) in
       actions-answered (filter (λ a. a.moment == now) w.ahead) (fold (along (λ b node. take_inbox b now node)) (w.bus, [])
-          (takers w.bus now))
+      (takers w.bus now))
       (λ x c. each-All (Acts p) w.ahead x h.ahead (filter-among (λ (a : Action). a.moment == now) w.ahead x c).0) s.bus
       ∙ ap (λ l. l ++ map (asked_of p) (filter (λ a. a.moment == now) w.ahead)) s.none
 
@@ -250,7 +250,7 @@ module _ (p : Scenario) where
   event-answered w now Notices h l r =
       ap (λ z. z ++ asked_up_to (filter (λ a. nat_lt now a.moment) w.ahead)) (moment-answered w now h)
       ∙ sym (map-append (asked_of p) (filter (λ a. a.moment == now) w.ahead)
-          (filter (λ a. nat_le a.moment p.stop) (filter (λ a. nat_lt now a.moment) w.ahead)))
+      (filter (λ a. nat_le a.moment p.stop) (filter (λ a. nat_lt now a.moment) w.ahead)))
       ∙ ap (map (asked_of p)) (split-now p.stop now w.ahead l r)
 
   run-answered : (k : ℕ) (w : World) → RunWorld p w → InOrder w
@@ -261,18 +261,18 @@ module _ (p : Scenario) where
     where
       go : (o : Option Due) → next_event p.stop w ≡ o
           → ((v : World) → RunWorld p v → InOrder v → answered (head (machine p.stop) k v) ++ asked_up_to
-              (behind (machine p.stop) k v).ahead ≡ asked_up_to v.ahead)
+          (behind (machine p.stop) k v).ahead ≡ asked_up_to v.ahead)
           → answered (then_from [] (λ x. x.1 ++ head (machine p.stop) k x.0) (option_map (world_behind w) o))
           ++ asked_up_to (then_from w (λ x. behind (machine p.stop) k x.0) (option_map (world_behind w) o)).ahead ≡ asked_up_to w.ahead
       go None e on = refl
       go (Some d) e on =
           let b = before-all p.stop w d e in
           ap (λ z. z ++ asked_up_to (behind (machine p.stop) k (world_behind w d).0).ahead)
-              (filter_map-append asked_in (event_step w d.moment d.what).1 (head (machine p.stop) k (world_behind w d).0))
+          (filter_map-append asked_in (event_step w d.moment d.what).1 (head (machine p.stop) k (world_behind w d).0))
           ∙ append_assoc (answered (event_step w d.moment d.what).1) (answered (head (machine p.stop) k (world_behind w d).0))
-              (asked_up_to (behind (machine p.stop) k (world_behind w d).0).ahead)
+          (asked_up_to (behind (machine p.stop) k (world_behind w d).0).ahead)
           ∙ ap (λ z. answered (event_step w d.moment d.what).1 ++ z)
-              (on (world_behind w d).0 (after-sound p w d e h) (stays-in-order p w d e i))
+          (on (world_behind w d).0 (after-sound p w d e h) (stays-in-order p w d e i))
           ∙ event-answered w d.moment d.what h (within-stop p.stop w d e) (b.asked i.ahead)
 
   run-in-order : (k : ℕ) (w : World) → InOrder w → InOrder (behind (machine p.stop) k w)
@@ -291,7 +291,7 @@ module _ (p : Scenario) where
       let w = behind (machine p.stop) k (opening p) in
       let none : next_event p.stop w ≡ None = over (next_event p.stop w) s in
       let rest : filter (λ (a : Action). nat_le a.moment p.stop) w.ahead ≡ [] = nothing-asked p.stop w none
-          (run-in-order k (opening p) (opening-in-order p b)).ahead in
+      (run-in-order k (opening p) (opening-in-order p b)).ahead in
       filter_map-append asked_in (head (machine p.stop) k (opening p)) (End (status (next_event p.stop w)) w.events ∷ [])
       ∙ ap (λ l. answered (head (machine p.stop) k (opening p)) ++ map (asked_of p) l) (sym rest)
       ∙ run-answered k (opening p) (opening-sound p h) (opening-in-order p b)

@@ -135,7 +135,7 @@ module _ (b : Bus) (now : ℕ) where
   states-belong c r [] o = refl
   states-belong c r (m ∷ ms) o = fold-append count_line c (state_lines b now r m) (flat_map (state_lines b now r) ms)
       ∙ ap (λ x. fold count_line x (flat_map (state_lines b now r) ms)) (go (same_level (level m.counters) (level (counters_after r m))))
-          ∙ states-belong c r ms o
+      ∙ states-belong c r ms o
     where
       go : (t : Bool) → fold count_line c (if t then [] else On now b.setup.number m.node (log.State (level (counters_after r m))) ∷ []) ≡ c
       go true = refl
@@ -169,7 +169,7 @@ module _ (b : Bus) (now : ℕ) where
           (outcome-one c r r.fault)
           ∙ fold-append count_line (one_event c) (hurt_lines b now r.hurt) (flat_map (state_lines b now r) b.members)
           ∙ ap (λ x. fold count_line x (flat_map (state_lines b now r) b.members)) (hurt-belongs (one_event c) r.hurt refl)
-              ∙ states-belong (one_event c) r b.members refl
+          ∙ states-belong (one_event c) r b.members refl
 
   recover-one : (c : Count) (node : ℕ) → fold count_line c (recover b now node).1 ≡ one_event c
   unfolding recover
@@ -214,7 +214,7 @@ module _ (p : Scenario) (bit : 1 ≤ p.setup.nominal) where
         lines = nodes-append now q.1 (take_inbox q.0 now n).1 c.lines (take-nodes q.0 now n);
       }) (record { bus = h.bus; lines = tt }) in
       all-pairs (Renewed now) action_step (filter (λ a. a.moment == now) w.ahead)
-          (fold (along (λ b node. take_inbox b now node)) (w.bus, []) (takers w.bus now))
+      (fold (along (λ b node. take_inbox b now node)) (w.bus, []) (takers w.bus now))
       (λ q x k c.
       let f = filter-among (λ (a : Action). a.moment == now) w.ahead x k in
       let there : x.moment ≡ now = eqb-true x.moment now f.1 in
@@ -226,7 +226,7 @@ module _ (p : Scenario) (bit : 1 ≤ p.setup.nominal) where
         };
         none = subst (λ t. NoNotice t (action_step q.0 x).0) there
             (submit-none x.moment q.0 x.node (submission_of (q.0).setup x.item) (subst (λ s. 1 ≤ s.nominal) (sym c.lines.bus.setup) bit)
-                (subst (λ t. NoNotice t q.0) (sym there) c.none));
+            (subst (λ t. NoNotice t q.0) (sym there) c.none));
       })
       (record { lines = taken; none = λ m a. only m (takes-fewer now (takers w.bus now) (w.bus, []) (all-take now w.bus) m a) })
     where
@@ -264,14 +264,24 @@ module _ (p : Scenario) (bit : 1 ≤ p.setup.nominal) where
   event-counts w d c e h i o = go d.what refl (due-or-asked p.stop w d e)
     where
       whole : (what : What) → d.what ≡ what → (x : Count) → fold count_line c (event_step w d.moment what).1 ≡ x → x.events ≡ c.events + 1
-          → IfSome x.open_at (λ t. Fresh t (record { events = w.events + 1; now = d.moment; ahead = left_ahead w d.moment what; bus
-              = (event_step w d.moment what).0 })) → Counts w d c
+          → IfSome x.open_at (λ t. Fresh t (record {
+            events = w.events + 1;
+            now = d.moment;
+            ahead = left_ahead w d.moment what;
+            bus
+                = (event_step w d.moment what).0;
+          })) → Counts w d c
       whole what q x f m k = record {
         after = x;
         counted = subst (λ y. fold count_line c (event_step w d.moment y).1 ≡ x) (sym q) f;
         more = m;
-        closed = subst (λ y. IfSome x.open_at (λ t. Fresh t (record { events = w.events + 1; now = d.moment; ahead = left_ahead w d.moment
-            y; bus = (event_step w d.moment y).0 }))) (sym q) k;
+        closed = subst (λ y. IfSome x.open_at (λ t. Fresh t (record {
+          events = w.events + 1;
+          now = d.moment;
+          ahead = left_ahead w d.moment
+              y;
+          bus = (event_step w d.moment y).0;
+        }))) (sym q) k;
       }
 
       kind : Asked w d → rank d.what ≡ 2
@@ -289,7 +299,7 @@ module _ (p : Scenario) (bit : 1 ≤ p.setup.nominal) where
           let r = moment-renews w d.moment h in
           whole Notices q (record { events = c.events + 1; open_at = Some d.moment })
           (counts-one c d.moment (moment_step w d.moment).1 (not-again w d c e q o)
-              (subst (λ x. Some_lines (event_step w d.moment x).1) q (event-some p.stop w d e)) r.lines.lines)
+          (subst (λ x. Some_lines (event_step w d.moment x).1) q (event-some p.stop w d e)) r.lines.lines)
           refl (record { none = r.none; ahead = rising-later d.moment w.now w.ahead i.ahead })
 
   run-counts : (k : ℕ) (w : World) (c : Count) → RunWorld p w → InOrder w → Closed c w
@@ -308,7 +318,7 @@ module _ (p : Scenario) (bit : 1 ≤ p.setup.nominal) where
           let n = event-counts w d c e h i o in
           let r = on (world_behind w d).0 n.after (after-sound p w d e h) (stays-in-order p w d e i) n.closed in
           let s : fold count_line c ((event_step w d.moment d.what).1 ++ head (machine p.stop) k (world_behind w d).0) ≡ fold count_line
-              n.after (head (machine p.stop) k (world_behind w d).0) =
+          n.after (head (machine p.stop) k (world_behind w d).0) =
           fold-append count_line c (event_step w d.moment d.what).1 (head (machine p.stop) k (world_behind w d).0)
           ∙ ap (λ x. fold count_line x (head (machine p.stop) k (world_behind w d).0)) n.counted in
           let t = ap (λ (x : Count). x.events) s in

@@ -49,7 +49,7 @@ module _ (p : Scenario) where
     offered = take-offered q.0 now n g.offered;
     follows = follows-append m p.setup q.1 (take_inbox q.0 now n).1 q.0 (take_inbox q.0 now n).0 g.follows
         (here (follow p.setup m q.1) (take_inbox q.0 now n).1 q.0 (take_inbox q.0 now n).0 g.bus.setup
-            (take-follows q.0 (follow p.setup m q.1) now n g.bus.sound g.follows.agrees));
+        (take-follows q.0 (follow p.setup m q.1) now n g.bus.sound g.follows.agrees));
   }
 
   action-goes : (m : Mirror) (q : Bus × List Line) (a : Action) → Acts p a → Goes m q.1 q.0
@@ -75,7 +75,7 @@ module _ (p : Scenario) where
   )
   event-goes w m now Notices d n h f a =
       let g = all-pairs (λ q. Goes m q.1 q.0) action_step (filter (λ a. a.moment == now) w.ahead)
-          (fold (along (λ b node. take_inbox b now node)) (w.bus, []) (takers w.bus now))
+      (fold (along (λ b node. take_inbox b now node)) (w.bus, []) (takers w.bus now))
       (λ q x k i. action-goes m q x (each-All (Acts p) w.ahead x h.ahead (filter-among (λ a. a.moment == now) w.ahead x k).0) i)
       (all-pairs (λ q. Goes m q.1 q.0) (λ b node. take_inbox b now node) (takers w.bus now) (w.bus, [])
       (λ q n k i. take-goes m now q n i) (record { bus = h.bus; offered = f; follows = follows-none m p.setup w.bus a })) in
@@ -93,14 +93,14 @@ module _ (p : Scenario) where
     where
       go : (o : Option Due) → next_event p.stop w ≡ o
           → ((v : World) (x : Mirror) → RunWorld p v → Offered v.bus → Agrees x v.bus
-              → Follows x p.setup (head (machine p.stop) k v) (behind (machine p.stop) k v).bus)
+          → Follows x p.setup (head (machine p.stop) k v) (behind (machine p.stop) k v).bus)
           → Follows m p.setup (then_from [] (λ x. x.1 ++ head (machine p.stop) k x.0) (option_map (world_behind w) o))
-              (then_from w (λ x. behind (machine p.stop) k x.0) (option_map (world_behind w) o)).bus
+          (then_from w (λ x. behind (machine p.stop) k x.0) (option_map (world_behind w) o)).bus
       go None e on = follows-none m p.setup w.bus a
       go (Some d) e on =
           let g = event-goes w m d.moment d.what (own-start p w d e) (own-finish p.stop w d e) h f a in
           follows-append m p.setup (event_step w d.moment d.what).1 (head (machine p.stop) k (world_behind w d).0)
-              (event_step w d.moment d.what).0
+          (event_step w d.moment d.what).0
           (behind (machine p.stop) k (world_behind w d).0).bus g.1
           (on (world_behind w d).0 (follow p.setup m (event_step w d.moment d.what).1) (after-sound p w d e h) g.0 g.1.agrees)
 
@@ -136,9 +136,9 @@ module _ (p : Scenario) where
   lines-lawful k h =
       let f = mirror-agrees k h in
       within-append p.setup (new_mirror p.nodes) (head (machine p.stop) k (opening p))
-          (End (status (next_event p.stop (behind (machine p.stop) k (opening p)))) (behind (machine p.stop) k (opening p)).events ∷ []) []
+      (End (status (next_event p.stop (behind (machine p.stop) k (opening p)))) (behind (machine p.stop) k (opening p)).events ∷ []) []
       (f.lawful (End (status (next_event p.stop (behind (machine p.stop) k (opening p)))) (behind (machine p.stop) k (opening p)).events
-          ∷ []) (record { loss = refl; hurt = refl }))
+      ∷ []) (record { loss = refl; hurt = refl }))
       (refl, tt)
 
   pub lines-open : (k : ℕ) → IsScenario p → Opens (scenario_lines k p)

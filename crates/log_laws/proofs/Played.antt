@@ -147,7 +147,7 @@ module _ (p : Scenario) where
     nodes = nodes-map (one n (λ m. record m { live = true })) keeps b.members ∙ h.nodes;
     live = λ m a s. let r = map-among (one n (λ x. record x { live = true })) b.members m a in
         subst (λ (x : Member). x.live ≡ true) r.2 (by r.0 r.1 (r.0).live ((r.0).node == n) refl refl
-            (subst (λ k. Among (n ∷ seen) k) (sym (ap (λ (x : Member). x.node) r.2) ∙ keeps r.0) s));
+        (subst (λ k. Among (n ∷ seen) k) (sym (ap (λ (x : Member). x.node) r.2) ∙ keeps r.0) s));
   }
     where
       keeps : KeepsNodes (one n (λ m. record m { live = true }))

@@ -78,7 +78,7 @@ module _ (b : Bus) (m : Mirror) (since now : ℕ) (a : Agrees m b) (live : (x : 
       ∙ flat-nothing (λ (x : Seen). of_node m.waits x.node) (able b.setup m earlier) (map seen b.members) (λ y k t.
       let r = map-among seen b.members y k in
       ap (λ (z : Seen). of_node m.waits z.node) (sym r.2) ∙ nothing-before earlier from before r.0 r.1
-          (ap (able b.setup m earlier) r.2 ∙ t))
+      (ap (able b.setup m earlier) r.2 ∙ t))
 
 -- prompt starts along lines
 abbrev PromptTold : Setup → Mirror → ℕ → ℕ → Told → Type 0
@@ -107,8 +107,11 @@ quiet-line s m last now (End status events) a n = tt
 
 quiet-prompts : (s : Setup) (now : ℕ) (lines : List Line) (m : Mirror) (last : ℕ) → Quiet s now lines → Prompts s m last lines
 quiet-prompts s now [] m last q = tt
-quiet-prompts s now (line ∷ lines) m last q = (quiet-line s m last now line q.0.0 q.0.1, quiet-prompts s now lines (mirror_after s m line)
-    (moment_after last line) q.1)
+quiet-prompts s now (line ∷ lines) m last q = (
+  quiet-line s m last now line q.0.0 q.0.1,
+  quiet-prompts s now lines (mirror_after s m line)
+      (moment_after last line) q.1,
+)
 
 prompts-append : (s : Setup) (xs ys : List Line) (m : Mirror) (last : ℕ) → Prompts s m last xs
     → Prompts s (follow s m xs) (fold moment_after last xs) ys → Prompts s m last (xs ++ ys)
@@ -159,16 +162,22 @@ module _ (p : Scenario) where
       go None = record { prompts = tt; at = tt }
       go (Some r) =
           let rest = setup-of p w.bus h.bus now (map (λ x. On now w.bus.setup.number x.node (loser_told w.bus x)) (losers w.bus now r.node))
-              (losses-quiet w.bus now (losers w.bus now r.node)) in
+          (losses-quiet w.bus now (losers w.bus now r.node)) in
           record {
             prompts = (
-              subst (λ s. IsPrompt s m w.now now) h.bus.setup (record { later = later; not_before = none-able w.bus m w.now now a h.bus.live
-                  (start-least w.bus w.now now d) }),
+              subst (λ s. IsPrompt s m w.now now) h.bus.setup (record {
+                later = later;
+                not_before = none-able w.bus m w.now now a h.bus.live
+                    (start-least w.bus w.now now d);
+              }),
               quiet-prompts p.setup now (map (λ x. On now w.bus.setup.number x.node (loser_told w.bus x)) (losers w.bus now r.node))
                   (mirror_after p.setup m (On now w.bus.setup.number r.node (log.Start r.frame))) now rest,
             );
-            at = ((refl, ap (λ (s : Setup). s.number) h.bus.setup), quiet-at p.setup now
-                (map (λ x. On now w.bus.setup.number x.node (loser_told w.bus x)) (losers w.bus now r.node)) rest);
+            at = (
+              (refl, ap (λ (s : Setup). s.number) h.bus.setup),
+              quiet-at p.setup now
+                  (map (λ x. On now w.bus.setup.number x.node (loser_told w.bus x)) (losers w.bus now r.node)) rest,
+            );
           }
 
   -- a bus of the scenario and quiet lines
@@ -225,14 +234,14 @@ module _ (p : Scenario) where
           comes-at p.setup d.moment w.now (event_step w d.moment d.what).1 l.at (event-some p.stop w d e) in
           prompts-append p.setup (event_step w d.moment d.what).1 (head (machine p.stop) k (world_behind w d).0) m w.now l.prompts
           (subst (λ n. Prompts p.setup (follow p.setup m (event_step w d.moment d.what).1) n (head (machine p.stop) k (world_behind w d).0))
-              (sym there)
+          (sym there)
           (on (world_behind w d).0 (follow p.setup m (event_step w d.moment d.what).1) (after-sound p w d e h) g.0 g.1.agrees))
 
   lines-prompt : (k : ℕ) → IsScenario p → Prompts p.setup (new_mirror p.nodes) 0 (scenario_lines k p)
   lines-prompt k h = prompts-append p.setup (head (machine p.stop) k (opening p))
       (End (status (next_event p.stop (behind (machine p.stop) k (opening p)))) (behind (machine p.stop) k (opening p)).events ∷ [])
       (new_mirror p.nodes) 0 (run-prompts k (opening p) (new_mirror p.nodes) (opening-sound p h) (opening-agrees p).1 (opening-agrees p).0)
-          (tt, tt)
+      (tt, tt)
 
 prompt-at : (s : Setup) (m : Mirror) (last : ℕ) (before : List Line) (line : Line) (rest : List Line)
     → Prompts s m last (before ++ line ∷ rest)

@@ -72,7 +72,7 @@ module _ (k : ℕ) where
   plain_continued m i None ns s h = tt
   plain_continued m i (Some g) ns s h =
       split_continued (split_first (length g.takes) ns) (λ top below. after_meaning bare g.gives below
-          (meaning_of m i (map (λ n. n) top) s))
+      (meaning_of m i (map (λ n. n) top) s))
       (λ top below. meaning_continued g.gives below (meaning_of m i (map (λ n. n) top) s) (bytes_kept m k i (map (λ n. n) top) s h))
 
   selection_continued : (n : ℕ) (ns : List ℕ) (s : Store) → HasBytes k s → Continued k (selection bare n ns s)
@@ -109,10 +109,10 @@ module _ (k : ℕ) where
       (λ n below. selection_continued n below s h)
   effect_continued m (instr.Local op index) ns s h =
       either_continued (op == 0x20) (ReadsLocal index ns) (cond (op == 0x21) (on_one ns (λ n below. WritesLocal index n below))
-          (on_one ns (λ n below. WritesLocal index n ns))) tt
+      (on_one ns (λ n below. WritesLocal index n ns))) tt
       (either_continued (op == 0x21) (on_one ns (λ n below. WritesLocal index n below)) (on_one ns (λ n below. WritesLocal index n ns))
       (one_continued ns (λ n below. WritesLocal index n below) (λ n below. tt))
-          (one_continued ns (λ n below. WritesLocal index n ns) (λ n below. tt)))
+      (one_continued ns (λ n below. WritesLocal index n ns) (λ n below. tt)))
   effect_continued m i ns s h = plain_continued m i (signature_of m i) ns s h
 
 -- ---- steps
@@ -140,34 +140,34 @@ module _ (m : NestedModule) (fm : Module) (k : ℕ) (s : Store) (has : HasBytes 
       → 2 * f + (length labels + length callers) ≤ n → Falls n k (returning fm func base depth values labels callers s f)
   returning_falls n func base depth values labels callers f le =
       let go = λ (t : FuncType). where_split (split_first (length t.results) values)
-          (λ top below. back base depth top below labels callers s f) in
+      (λ top below. back base depth top below labels callers s f) in
       found_falls n k (slice_get fm.funcs func) (λ (g : Func). where_found (slice_get fm.types g.ty) go)
-          (λ g. found_falls n k (slice_get fm.types g.ty) go (λ t.
+      (λ g. found_falls n k (slice_get fm.types g.ty) go (λ t.
       split_falls n k (split_first (length t.results) values) (λ top below. back base depth top below labels callers s f)
-          (λ top below. back_falls n base depth top below labels callers f le)))
+      (λ top below. back_falls n base depth top below labels callers f le)))
 
   calling_falls : (n index func position base depth : ℕ) (values : List ℕ) (labels : List Label) (callers : List Frame) (f : ℕ)
       → 2 * suc f + (length labels + length callers) ≤ n → Falls n k (calling fm index func position base depth values labels callers s f)
   calling_falls n index func position base depth values labels callers f le =
       let fr : Frame = record { func = func; position = position + 1; base = base; depth = depth } in
       let go = λ (g : Func) (t : FuncType). where_split (split_first (length t.params) values)
-          (λ top below. Go index 0 (length below) 0 (replicate (length g.locals) 0 ++ values) labels (fr ∷ callers) s f) in
+      (λ top below. Go index 0 (length below) 0 (replicate (length g.locals) 0 ++ values) labels (fr ∷ callers) s f) in
       either_falls n k (nat_lt (length callers) most_callers) (with_function fm index go) _
       (found_falls n k (slice_get fm.funcs index) (λ (g : Func). where_found (slice_get fm.types g.ty) (λ t. go g t))
-          (λ g. found_falls n k (slice_get fm.types g.ty) (λ t. go g t) (λ t.
+      (λ g. found_falls n k (slice_get fm.types g.ty) (λ t. go g t) (λ t.
       split_falls n k (split_first (length t.params) values) (λ top below. Go index 0 (length below) 0
-          (replicate (length g.locals) 0 ++ values) labels (fr ∷ callers) s f) (λ top below. (omega (arith, le), has)))))
+      (replicate (length g.locals) 0 ++ values) labels (fr ∷ callers) s f) (λ top below. (omega (arith, le), has)))))
       has
 
   branching_falls : (n label func base depth : ℕ) (values : List ℕ) (labels : List Label) (callers : List Frame) (f : ℕ)
       → 2 * f + (length labels + length callers) < n → Falls n k (branching fm label func base depth values labels callers s f)
   branching_falls n label func base depth values labels callers f le =
       let lands = λ (l : Label). where_split (split_first (length (types_of l.carries)) values)
-          (λ top below. landing l label func base depth top below labels callers s f) in
+      (λ top below. landing l label func base depth top below labels callers s f) in
       either_falls n k (nat_lt label depth) (where_found (slice_get labels label) lands)
-          (returning fm func base depth values labels callers s f)
+      (returning fm func base depth values labels callers s f)
       (found_falls n k (slice_get labels label) lands (λ l. split_falls n k (split_first (length (types_of l.carries)) values)
-          (λ top below. landing l label func base depth top below labels callers s f)
+      (λ top below. landing l label func base depth top below labels callers s f)
       (λ top below. (omega (arith, le, length-drop (closed_by l label) labels), has))))
       (returning_falls n func base depth values labels callers f (omega (arith, le)))
 
@@ -177,11 +177,11 @@ module _ (m : NestedModule) (fm : Module) (k : ℕ) (s : Store) (has : HasBytes 
   doing_falls n (Continues values store) func position base depth labels callers f le h = (omega (arith, le), h)
   doing_falls n (ReadsLocal index values) func position base depth labels callers f le h =
       found_falls n k (slice_get (reverse values) (base + index)) (λ x. Go func (position + 1) base depth (x ∷ values) labels callers s f)
-          (λ x. (omega (arith, le), has))
+      (λ x. (omega (arith, le), has))
   doing_falls n (WritesLocal index v values) func position base depth labels callers f le h =
       found_falls n k (slice_get (reverse values) (base + index))
-          (λ old. Go func (position + 1) base depth (reverse (slice_set (reverse values) (base + index) v)) labels callers s f)
-          (λ old. (omega (arith, le), has))
+      (λ old. Go func (position + 1) base depth (reverse (slice_set (reverse values) (base + index) v)) labels callers s f)
+      (λ old. (omega (arith, le), has))
   doing_falls n (Branches label values) func position base depth labels callers f le h = branching_falls n label func base depth values
       labels callers f (omega (arith, le))
   doing_falls n (Returns values) func position base depth labels callers f le h = returning_falls n func base depth values labels callers f
@@ -209,7 +209,7 @@ module _ (m : NestedModule) (fm : Module) (k : ℕ) (s : Store) (has : HasBytes 
   choosing_falls n r q end func position base depth [] labels callers f le = tt
   choosing_falls n r q end func position base depth (c ∷ values) labels callers f le =
       either_falls n k (c == 0) (other_list r q end func base depth values labels callers s f)
-          (Go func (position + 1) base (depth + 1) values (block_label end (length values) r ∷ labels) callers s f)
+      (Go func (position + 1) base (depth + 1) values (block_label end (length values) r ∷ labels) callers s f)
       (other_falls n r q end func base depth values labels callers f le) (omega (arith, le), has)
 
   executing_falls : (n : ℕ) (o : Option Instr) (func position base depth : ℕ) (values : List ℕ) (labels : List Label) (callers : List Frame)
@@ -237,5 +237,5 @@ module _ (m : NestedModule) (fm : Module) (k : ℕ) (s : Store) (has : HasBytes 
   step_falls func position base depth values labels callers f h =
       let n = 2 * f + (length labels + length callers) in
       found_falls n k (slice_get fm.funcs func) (λ (g : Func). executing m fm (slice_get g.body position) func position base depth values
-          labels callers s f) (λ g.
+      labels callers s f) (λ g.
       executing_falls n (slice_get g.body position) func position base depth values labels callers f (omega arith) h)

@@ -33,15 +33,31 @@ use Rattle.machine_steps.proofs.States.{Matches, Same}
 nests : (c : Code) (room around : ℕ) (text : List ℕ) → around + room ≡ most_nested → SpellsCode room c text → Nests around c
 nests Nil room around text e s = tt
 nests (Leaf i rest) room around text e s = nests rest room around s.1 e s.4
-nests (InBlock r inner rest) room around text e s = (omega (arith, e, s.3), nests inner (room - 1) (suc around) s.0 (omega (arith, e, s.3))
-    s.4, nests rest room around s.1 e s.5)
-nests (InLoop r inner rest) room around text e s = (omega (arith, e, s.3), nests inner (room - 1) (suc around) s.0 (omega (arith, e, s.3))
-    s.4, nests rest room around s.1 e s.5)
-nests (IfOnly r inner rest) room around text e s = (omega (arith, e, s.3), nests inner (room - 1) (suc around) s.0 (omega (arith, e, s.3))
-    s.4, nests rest room around s.1 e s.5)
-nests (IfElse r first second rest) room around text e s =
-    (omega (arith, e, s.4), nests first (room - 1) (suc around) s.0 (omega (arith, e, s.4)) s.5, nests second (room - 1) (suc around) s.1
-        (omega (arith, e, s.4)) s.6, nests rest room around s.2 e s.7)
+nests (InBlock r inner rest) room around text e s = (
+  omega (arith, e, s.3),
+  nests inner (room - 1) (suc around) s.0 (omega (arith, e, s.3))
+      s.4,
+  nests rest room around s.1 e s.5,
+)
+nests (InLoop r inner rest) room around text e s = (
+  omega (arith, e, s.3),
+  nests inner (room - 1) (suc around) s.0 (omega (arith, e, s.3))
+      s.4,
+  nests rest room around s.1 e s.5,
+)
+nests (IfOnly r inner rest) room around text e s = (
+  omega (arith, e, s.3),
+  nests inner (room - 1) (suc around) s.0 (omega (arith, e, s.3))
+      s.4,
+  nests rest room around s.1 e s.5,
+)
+nests (IfElse r first second rest) room around text e s = (
+  omega (arith, e, s.4),
+  nests first (room - 1) (suc around) s.0 (omega (arith, e, s.4)) s.5,
+  nests second (room - 1) (suc around) s.1
+      (omega (arith, e, s.4)) s.6,
+  nests rest room around s.2 e s.7,
+)
 
 body_fits : (f : NestedFunc) (text : List ℕ) → SpellsBody f text → FuncFits f
 body_fits f text s =
@@ -68,16 +84,27 @@ module _ (m : NestedModule) (h : HasLimits m) where
   put_keeps s (Types types) text c = record { funcs = h.funcs; tables = h.tables; memories = h.memories }
   put_keeps s Imports text c = h
   put_keeps s (Funcs indices) text c = h
-  put_keeps s (Tables tables) text c = record { funcs = h.funcs; tables = each_fits SpellsTable TableFits table_fits tables c.1 c.4;
-      memories = h.memories }
-  put_keeps s (Memories memories) text c = record { funcs = h.funcs; tables = h.tables; memories = each_fits SpellsMemory MemoryFits
-      memory_fits memories c.1 c.4 }
+  put_keeps s (Tables tables) text c = record {
+    funcs = h.funcs;
+    tables = each_fits SpellsTable TableFits table_fits tables c.1 c.4;
+    memories = h.memories;
+  }
+  put_keeps s (Memories memories) text c = record {
+    funcs = h.funcs;
+    tables = h.tables;
+    memories = each_fits SpellsMemory MemoryFits
+        memory_fits memories c.1 c.4;
+  }
   put_keeps s (Globals globals) text c = record { funcs = h.funcs; tables = h.tables; memories = h.memories }
   put_keeps s (Exports exports) text c = record { funcs = h.funcs; tables = h.tables; memories = h.memories }
   put_keeps s (Start func) text c = record { funcs = h.funcs; tables = h.tables; memories = h.memories }
   put_keeps s (Elements elements) text c = record { funcs = h.funcs; tables = h.tables; memories = h.memories }
-  put_keeps s (Codes funcs) text c = record { funcs = each_fits SpellsBody FuncFits body_fits funcs c.1.1 c.1.4; tables = h.tables; memories
-      = h.memories }
+  put_keeps s (Codes funcs) text c = record {
+    funcs = each_fits SpellsBody FuncFits body_fits funcs c.1.1 c.1.4;
+    tables = h.tables;
+    memories
+        = h.memories;
+  }
   put_keeps s (Datas datas) text c = record { funcs = h.funcs; tables = h.tables; memories = h.memories }
 
 sections_keep : (xs : List Section) (s : Before) (m : NestedModule) (text : List ℕ) → HasLimits m → SpellsSections s xs text
@@ -92,7 +119,7 @@ pub limits_are : (m : NestedModule) (bytes : List ℕ) → SpellsModule m bytes 
 limits_are m bytes s =
     let rest = s.1.2 in
     subst HasLimits (sym rest.1) (sections_keep rest.0 (record { last = 0; indices = [] }) empty s.1.0
-        (record { funcs = tt; tables = tt; memories = tt }) rest.3)
+    (record { funcs = tt; tables = tt; memories = tt }) rest.3)
 
 -- ---- the two forms
 
@@ -160,7 +187,7 @@ unfolding validity
 few_results m valid i t at =
     let types = passed (each rule.TypeResult has_one_result m.types) _ tt valid in
     leb-true (length t.results) 1 (each_passes has_one_result 0 m.types
-        (none_fails rule.TypeResult (first_failing has_one_result 0 m.types) types.it types.is) i t at)
+    (none_fails rule.TypeResult (first_failing has_one_result 0 m.types) types.it types.is) i t at)
 
 -- the nested form of a flat function that is there
 pub record Unflat (fs : List NestedFunc) (i : ℕ) (f : Func) : Type 0 where
@@ -208,9 +235,11 @@ code_has (IfElse r first second rest) p s =
     let e = q + 1 + size second in (
       tt,
       all_append (flat_code first (p + 1)) (Else e ∷ (flat_code second (q + 1) ++ End ∷ flat_code rest (e + 1)))
-          (code_has first (p + 1) s.0)
-          (tt, all_append (flat_code second (q + 1)) (End ∷ flat_code rest (e + 1)) (code_has second (q + 1) s.1)
-              (tt, code_has rest (e + 1) s.2)),
+          (code_has first (p + 1) s.0) (
+            tt,
+            all_append (flat_code second (q + 1)) (End ∷ flat_code rest (e + 1)) (code_has second (q + 1) s.1)
+                (tt, code_has rest (e + 1) s.2),
+          ),
     )
 
 body_has : (c : Code) → HasSpellableLeaves c → AllByRecursion IsEncodable (flat_body c)
@@ -221,7 +250,7 @@ ready_is fm n flat h parts valid = record {
   encodable = λ i f e p x at.
       let u = unflat n.funcs i f (subst (λ (x : Module). slice_get x.funcs i ≡ Some f) flat e) in
       let leaves = all_at (λ (f : NestedFunc). HasSpellableLeaves f.code) n.funcs i u.nested
-          (recursion_from_All (λ (f : NestedFunc). HasSpellableLeaves f.code) n.funcs parts.funcs) u.at in
+      (recursion_from_All (λ (f : NestedFunc). HasSpellableLeaves f.code) n.funcs parts.funcs) u.at in
       all_at IsEncodable f.body p x (subst (λ (f : Func). AllByRecursion IsEncodable f.body) u.is (body_has u.nested.code leaves)) at;
   locals = λ i f e.
       let u = unflat n.funcs i f (subst (λ (x : Module). slice_get x.funcs i ≡ Some f) flat e) in

@@ -88,12 +88,7 @@ fn write(
 }
 
 /// Grows by so many pages.
-fn grow(
-    alloc: Global,
-    pool: &mut Pool,
-    held: &mut Memory,
-    rest: &str,
-) -> Result<String, Unanswered>
+fn grow(alloc: Global, pool: &mut Pool, held: &mut Memory, rest: &str) -> Result<String, Unanswered>
     requires { IsThere pool.old held.old }
     ensures { IsThere pool.new held.new }
 {
@@ -105,12 +100,7 @@ fn grow(
 }
 
 /// The answer to one call.
-fn step(
-    alloc: Global,
-    pool: &mut Pool,
-    held: &mut Memory,
-    call: &str,
-) -> Result<String, Unanswered>
+fn step(alloc: Global, pool: &mut Pool, held: &mut Memory, call: &str) -> Result<String, Unanswered>
     requires { IsThere pool.old held.old }
     ensures { IsThere pool.new held.new }
 {

@@ -38,17 +38,21 @@ regroup xs ys = append_assoc xs (Custom ∷ []) ys
 -- what stands behind a front is sections
 parted : (m : NestedModule) (xs : List Section) (front rest : List ℕ) → SpellsSections start xs front → SpellsRest m (front ++ rest)
     → (ys : List Section) × (m ≡ module_of (xs ++ ys)) × (length m.funcs ≡ length (declared (xs ++ ys) [])) × SpellsSections
-        (after_all xs start) ys rest
+    (after_all xs start) ys rest
 parted m xs front rest f t =
     let b = front ++ rest in
     let whole : Here b 0 (front ++ rest) (length b) = whole_here b in
     let at = 0 + length front in
     let r = goes_on b xs t.0 start 0 at (length b) front b f (here_first b 0 (length b) front rest whole) t.3 whole
-        (omega (arith, length-append front rest)) in
+    (omega (arith, length-append front rest)) in
     let here = here_second b 0 (length b) front rest whole in
-    let same : r.text ≡ rest = one_text b at (length b) r.text rest r.here here in
-    (r.others, t.1 ∙ ap module_of r.whole, t.2 ∙ ap (λ l. length (declared l [])) r.whole, subst
-        (SpellsSections (after_all xs start) r.others) same r.spelled)
+    let same : r.text ≡ rest = one_text b at (length b) r.text rest r.here here in (
+      r.others,
+      t.1 ∙ ap module_of r.whole,
+      t.2 ∙ ap (λ l. length (declared l [])) r.whole,
+      subst
+          (SpellsSections (after_all xs start) r.others) same r.spelled,
+    )
 
 -- a front, and sections behind it
 joined : (m : NestedModule) (xs ys : List Section) (front rest : List ℕ) → SpellsSections start xs front

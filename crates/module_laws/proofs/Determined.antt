@@ -67,8 +67,14 @@ goes_on b (x ∷ xs) (z ∷ zs) s from at end front text f hf t ht le =
     let rest = subst (λ (z : Section). SpellsSections (after z s) zs t.1) (sym is) t.4 in
     let here = subst (λ (p : ℕ). Here b p t.1 end) (sym mid) (here_second b from end t.0 t.1 kt) in
     let more = goes_on b xs zs (after x s) (from + length f.0) at end f.1 t.1 f.4 (here_second b from at f.0 f.1 kf) rest here le in
-    record { others = more.others; text = more.text; whole = ap (λ (z : Section). z ∷ zs) (sym is)
-        ∙ ap (λ l. x ∷ l) more.whole; spelled = more.spelled; here = more.here }
+    record {
+      others = more.others;
+      text = more.text;
+      whole = ap (λ (z : Section). z ∷ zs) (sym is)
+          ∙ ap (λ l. x ∷ l) more.whole;
+      spelled = more.spelled;
+      here = more.here;
+    }
 
 -- ---- whole texts
 
@@ -77,7 +83,7 @@ pub one_text : (b : List ℕ) (at end : ℕ) (t u : List ℕ) → Here b at t en
 one_text b at end t u ht hu =
     let size : length t ≡ length u = omega (arith, ht.size, hu.size) in
     sym (take_at t (drop end b) (length t) refl) ∙ ap (take (length t)) (sym ht.whole ∙ hu.whole)
-        ∙ take_at u (drop end b) (length t) (sym size)
+    ∙ take_at u (drop end b) (length t) (sym size)
 
 -- a text is one list of sections
 pub same_sections : (xs ys : List Section) (text : List ℕ) → SpellsSections start xs text → SpellsSections start ys text → xs ≡ ys
@@ -85,7 +91,7 @@ same_sections xs ys text s t =
     ap (λ (p : List Section × ℕ). p.0)
     (ok_is (xs, length text) (ys, length text)
     (sym (sections_again tell (length text) start text xs 0 text (omega arith) s (whole_here text))
-        ∙ sections_again tell (length text) start text ys 0 text (omega arith) t (whole_here text)))
+    ∙ sections_again tell (length text) start text ys 0 text (omega arith) t (whole_here text)))
 
 -- sections behind sections
 pub after_both : (xs ys : List Section) (s : Before) → after_all (xs ++ ys) s ≡ after_all ys (after_all xs s)
@@ -117,10 +123,15 @@ all_begins m b s =
     let t = s.1 in
     let whole : b ≡ (magic ++ version) ++ t.0 = t.1 in
     let here : Here b 0 ((magic ++ version) ++ t.0) (length b) = same_text b 0 (length b) b ((magic ++ version) ++ t.0) whole (whole_here b)
-        in
+    in
     let x = t.2 in
     record {
       sections = x.0;
-      begins = record { header = here_first b 0 (length b) (magic ++ version) t.0 here; text = t.0; here = here_second b 0 (length b)
-          (magic ++ version) t.0 here; spelled = x.3 };
+      begins = record {
+        header = here_first b 0 (length b) (magic ++ version) t.0 here;
+        text = t.0;
+        here = here_second b 0 (length b)
+            (magic ++ version) t.0 here;
+        spelled = x.3;
+      };
     }

@@ -23,7 +23,7 @@ module _ {A : Type 0} (item : List ℕ → ℕ → Read A) (b : List ℕ) (front
       let k : count - i ≡ suc (count - (i + 1)) = omega arith in
       sym (regroup front x (each_at item b (count - (i + 1)) next))
       ∙ sym (ap (λ n. with_front front (each_at item b n at)) k ∙ ap
-          (λ r. with_front front (r >>= λ x. each_at item b (count - (i + 1)) x.1 >>= cons_read x.0)) h)
+      (λ r. with_front front (r >>= λ x. each_at item b (count - (i + 1)) x.1 >>= cons_read x.0)) h)
       ∙ so_far
 
   pub ends : (e : Fault) → i < count → Fails e (item b at) → with_front front (each_at item b (count - i) at) ≡ total → Fails e total
@@ -32,7 +32,7 @@ module _ {A : Type 0} (item : List ℕ → ℕ → Read A) (b : List ℕ) (front
   ends e lt h so_far =
       let k : count - i ≡ suc (count - (i + 1)) = omega arith in
       sym so_far ∙ ap (λ n. with_front front (each_at item b n at)) k
-          ∙ ap (λ r. with_front front (r >>= λ x. each_at item b (count - (i + 1)) x.1 >>= cons_read x.0)) h
+      ∙ ap (λ r. with_front front (r >>= λ x. each_at item b (count - (i + 1)) x.1 >>= cons_read x.0)) h
 
   pub is_done : count ≤ i → with_front front (each_at item b (count - i) at) ≡ total → total ≡ Ok (front, at)
   unfolding each_at

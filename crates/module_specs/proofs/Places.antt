@@ -90,8 +90,12 @@ module _ (b : List ℕ) where
 
   byte_ok : (t : Bool) (x next : ℕ) (at : ℕ) → (let p : ℕ × ℕ = (get_or b at 0, at + 1) in cond t (done p) (Err (Short (length b))) ≡ Ok
       (x, next)) → (t ≡ true) × (get_or b at 0 ≡ x) × (next ≡ at + 1)
-  byte_ok true x next at e = (refl, ap (λ (p : ℕ × ℕ). p.0) (ok_is (get_or b at 0, at + 1) (x, next) e), sym
-      (ap (λ (p : ℕ × ℕ). p.1) (ok_is (get_or b at 0, at + 1) (x, next) e)))
+  byte_ok true x next at e = (
+    refl,
+    ap (λ (p : ℕ × ℕ). p.0) (ok_is (get_or b at 0, at + 1) (x, next) e),
+    sym
+        (ap (λ (p : ℕ × ℕ). p.1) (ok_is (get_or b at 0, at + 1) (x, next) e)),
+  )
   byte_ok false x next at e = absurd cc
 
   pub byte_here : (at next x : ℕ) → byte_at b at ≡ Ok (x, next) → Here b at (x ∷ []) next
@@ -112,7 +116,7 @@ module _ (b : List ℕ) where
       let sizes : length b - at ≡ length text + length rest = sym (length-drop at b) ∙ ap length e ∙ length-append text rest in
       let next : length b - length rest ≡ at + length text = omega arith in
       let is_rest : drop (length b - length rest) b ≡ rest = ap (λ n. drop n b) next ∙ sym (drop-drop (length text) at b)
-          ∙ ap (drop (length text)) e ∙ drop_at text rest (length text) refl in
+      ∙ ap (drop (length text)) e ∙ drop_at text rest (length text) refl in
       record { whole = e ∙ ap (λ l. text ++ l) (sym is_rest); size = next; within = omega arith }
 
   placed_again : {A : Type 0} (at next : ℕ) (r : Result (A × List ℕ) LebError) (n : A) → next ≤ length b → r ≡ Ok (n, drop next b)
@@ -157,7 +161,7 @@ module _ (b : List ℕ) where
       let k = same_text at next text (0 ∷ []) s h in
       let n : at + 1 ≡ next = omega (arith, k.size) in
       ap (λ r. r >>= λ byte. refuse_if (not (eqb byte.0 0)) (Opcode at byte.0) >>= λ fine. Ok byte.1) (byte_again at next 0 [] k)
-          ∙ ap (λ n. Ok n) n
+      ∙ ap (λ n. Ok n) n
 
   zero_ok : (t : Bool) (e : Fault) (n next : ℕ) → refuse_if (not t) e >>= (λ fine. Ok n) ≡ Ok next → (t ≡ true) × (n ≡ next)
   zero_ok true e n next h = (refl, ok_is n next h)

@@ -58,13 +58,23 @@ same_constant c t n e f = ap (λ t. record { ty = t; value = c.value }) e ∙ ap
 
 value_text : (t : ValType) (c : Constant) → c.ty ≡ t → FitsType c → (text : List ℕ) × SpellsValue t c text
 value_text I32 c e f =
-    let z = i32_of_bits c.value (subst (λ t. FitsType (record { ty = t; value = c.value })) e f) in
-    (0x41 ∷ signed_text z.0, (z.0, same_constant c I32 (cast_unsigned w32 z.0) e z.2,
-        (signed_text z.0, refl, signed_spelled 32 z.0 (omega arith) (omega arith) z.1)))
+    let z = i32_of_bits c.value (subst (λ t. FitsType (record { ty = t; value = c.value })) e f) in (
+      0x41 ∷ signed_text z.0,
+      (
+        z.0,
+        same_constant c I32 (cast_unsigned w32 z.0) e z.2,
+        (signed_text z.0, refl, signed_spelled 32 z.0 (omega arith) (omega arith) z.1),
+      ),
+    )
 value_text I64 c e f =
-    let z = i64_of_bits c.value (subst (λ t. FitsType (record { ty = t; value = c.value })) e f) in
-    (0x42 ∷ signed_text z.0, (z.0, same_constant c I64 (cast_unsigned w64 z.0) e z.2,
-        (signed_text z.0, refl, signed_spelled 64 z.0 (omega arith) (omega arith) z.1)))
+    let z = i64_of_bits c.value (subst (λ t. FitsType (record { ty = t; value = c.value })) e f) in (
+      0x42 ∷ signed_text z.0,
+      (
+        z.0,
+        same_constant c I64 (cast_unsigned w64 z.0) e z.2,
+        (signed_text z.0, refl, signed_spelled 64 z.0 (omega arith) (omega arith) z.1),
+      ),
+    )
 
 pub constant_text : (c : Constant) → FitsType c → (text : List ℕ) × SpellsConstant c text
 constant_text c f = let v = value_text c.ty c refl f in (v.0 ++ 0x0B ∷ [], (v.0, 0x0B ∷ [], refl, v.1, refl))
@@ -112,16 +122,35 @@ module _ (m : NestedModule) (h : HasSpellableParts m) where
   put_fits s (Funcs indices) text c = h
   put_fits s (Tables tables) text c = record { funcs = h.funcs; globals = h.globals; elements = h.elements; datas = h.datas }
   put_fits s (Memories memories) text c = record { funcs = h.funcs; globals = h.globals; elements = h.elements; datas = h.datas }
-  put_fits s (Globals globals) text c = record { funcs = h.funcs; globals = all_fit SpellsGlobal GlobalFits global_fits globals text c;
-      elements = h.elements; datas = h.datas }
+  put_fits s (Globals globals) text c = record {
+    funcs = h.funcs;
+    globals = all_fit SpellsGlobal GlobalFits global_fits globals text c;
+    elements = h.elements;
+    datas = h.datas;
+  }
   put_fits s (Exports exports) text c = record { funcs = h.funcs; globals = h.globals; elements = h.elements; datas = h.datas }
   put_fits s (Start func) text c = record { funcs = h.funcs; globals = h.globals; elements = h.elements; datas = h.datas }
-  put_fits s (Elements elements) text c = record { funcs = h.funcs; globals = h.globals; elements = all_fit SpellsElement ElementFits
-      element_fits elements text c; datas = h.datas }
-  put_fits s (Codes funcs) text c = record { funcs = all_fit SpellsBody FuncFits body_fits funcs text c.1; globals = h.globals; elements
-      = h.elements; datas = h.datas }
-  put_fits s (Datas datas) text c = record { funcs = h.funcs; globals = h.globals; elements = h.elements; datas = all_fit SpellsData
-      DataFits data_fits datas text c }
+  put_fits s (Elements elements) text c = record {
+    funcs = h.funcs;
+    globals = h.globals;
+    elements = all_fit SpellsElement ElementFits
+        element_fits elements text c;
+    datas = h.datas;
+  }
+  put_fits s (Codes funcs) text c = record {
+    funcs = all_fit SpellsBody FuncFits body_fits funcs text c.1;
+    globals = h.globals;
+    elements
+        = h.elements;
+    datas = h.datas;
+  }
+  put_fits s (Datas datas) text c = record {
+    funcs = h.funcs;
+    globals = h.globals;
+    elements = h.elements;
+    datas = all_fit SpellsData
+        DataFits data_fits datas text c;
+  }
 
 sections_fit : (xs : List Section) (s : Before) (m : NestedModule) (text : List ℕ) → HasSpellableParts m → SpellsSections s xs text
     → HasSpellableParts (put_all xs m)

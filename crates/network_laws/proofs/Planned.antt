@@ -43,7 +43,7 @@ named_by k zero bus (m ∷ ms) n there stands =
     first rest = let e : (k == (k + 0)) ≡ true = itself k (k + 0) (omega arith) in rw e refl
 named_by k (suc i) bus (m ∷ ms) n there stands =
     by_test (among m.buses bus) (subst (λ j. among (naming_from (k + 1) ms bus) j ≡ true) (omega arith)
-        (named_by (k + 1) i bus ms n there stands))
+    (named_by (k + 1) i bus ms n there stands))
   where
     by_test : (b : Bool) → among (naming_from (k + 1) ms bus) (k + suc i) ≡ true
         → among (if b then k ∷ naming_from (k + 1) ms bus else naming_from (k + 1) ms bus) (k + suc i) ≡ true
@@ -83,7 +83,7 @@ entries_planned buses nodes members place h (e ∷ es) all = by_test (e.bus == p
   where
     by_test : (b : Bool) → (e.bus == place) ≡ b → All (IsEntry members) (entries_on place es)
         → All (IsEntry members) (map (λ (x : ScriptEntry). x.entry)
-            (if b then e ∷ filter (λ (x : ScriptEntry). x.bus == place) es else filter (λ (x : ScriptEntry). x.bus == place) es))
+        (if b then e ∷ filter (λ (x : ScriptEntry). x.bus == place) es else filter (λ (x : ScriptEntry). x.bus == place) es))
     by_test true is rest = All-cons (IsEntry members) e.entry (entries_on place es)
         (entry_planned buses nodes members place h e (same_number e.bus place is) all.0) rest
     by_test false is rest = rest
@@ -103,7 +103,7 @@ bus_count place es nodes (b ∷ bs) = ap suc (bus_count (place + 1) es nodes bs)
 buses_planned : (p : Plan) (place buses : ℕ) (nodes : List Node) (es : List ScriptEntry)
     → ((bus i : ℕ) → IsOn nodes bus i → among (naming_from 0 p.nodes bus) i ≡ true)
     → AllByRecursion (IsScriptEntry buses nodes) es → (bs : List Bus) → AllByRecursion (IsBus p.resolution) bs
-        → AllFrom place (IsBusPlan p) (bus_plans_from place es p.nodes bs)
+    → AllFrom place (IsBusPlan p) (bus_plans_from place es p.nodes bs)
 buses_planned p place buses nodes es h script [] all = tt
 buses_planned p place buses nodes es h script (b ∷ bs) all = (
   record {
@@ -135,9 +135,12 @@ module _ {Code Why : Type 0} (judge : Description → List ℕ → Result Code W
       let bytes = bind_ok (read {Why = Why} folder (ModuleOf place) (module_name net node.fmu d.0.identifier)) _ part buses.2 in
       let code = bind_ok (refused_as (InModule place) (judge d.0 bytes.0)) _ part bytes.2 in
       let same : record { description = d.0; buses = buses.0; code = code.0; description_bytes = text.0; code_bytes = bytes.0 } ≡ part = cc
-          code.2 in
-      subst (IsKnown node) same (record { text = text.0; described = refused_ok (InDescription place) (description_of text.0) d.0 d.1;
-          attached = buses.1 })
+      code.2 in
+      subst (IsKnown node) same (record {
+        text = text.0;
+        described = refused_ok (InDescription place) (description_of text.0) d.0 d.1;
+        attached = buses.1;
+      })
 
   abbrev pub Pairs : List Node → List (NodeParts Code) → Type 0
   Pairs [] [] = ⊤
@@ -185,9 +188,12 @@ module _ {Code Why : Type 0} (judge : Description → List ℕ → Result Code W
   names_it buses bus i [] ps n k h there stands = absurd (cc there)
   names_it buses bus i (m ∷ ms) [] n k h there stands = absurd k
   names_it buses bus zero (m ∷ ms) (p ∷ ps) n k h there stands =
-      let same : m ≡ n = cc there in
-      (node_plan_of p, refl, (one_attached buses m p k.0 h.0).all_of_them bus
-          (subst (λ (x : Node). stands_on x.attachments bus ≡ true) (sym same) stands))
+      let same : m ≡ n = cc there in (
+        node_plan_of p,
+        refl,
+        (one_attached buses m p k.0 h.0).all_of_them bus
+            (subst (λ (x : Node). stands_on x.attachments bus ≡ true) (sym same) stands),
+      )
   names_it buses bus (suc i) (m ∷ ms) (p ∷ ps) n k h there stands = names_it buses bus i ms ps n k.1 h.1 there stands
 
   member : (buses : ℕ) (ns : List Node) (ps : List (NodeParts Code)) → Pairs ns ps → AllByRecursion (IsNode buses) ns → (bus i : ℕ)
@@ -195,7 +201,7 @@ module _ {Code Why : Type 0} (judge : Description → List ℕ → Result Code W
   member buses ns ps k h bus i on =
       let r = names_it buses bus i ns ps on.node k h on.there on.stands in
       subst (λ j. among (naming_from 0 (map node_plan_of ps) bus) j ≡ true) (omega arith)
-          (named_by 0 i bus (map node_plan_of ps) r.0 r.1 r.2)
+      (named_by 0 i bus (map node_plan_of ps) r.0 r.1 r.2)
 
   pub well_formed : (file : NetworkFile) (ps : List (NodeParts Code)) → IsInRange file → Pairs file.nodes ps
       → IsPlan (plan_of file (map node_plan_of ps))
@@ -225,4 +231,4 @@ module _ {Code Why : Type 0} (judge : Description → List ℕ → Result Code W
       let ps = paired folder net [] file.0.nodes parts.0 parts.1 in
       let known = subst (Pairs file.0.nodes) ps.1 ps.2 in
       subst (λ (m : Network Code). IsPlan m.plan) same (well_formed file.0 parts.0
-          (file_ranged text.0 file.0 (refused_ok InNetworkFile (network_file_of text.0) file.0 file.1)) known)
+      (file_ranged text.0 file.0 (refused_ok InNetworkFile (network_file_of text.0) file.0 file.1)) known)

@@ -53,9 +53,9 @@ module _ {S : Type 0} (answer : S → Call → Reply × S) where
       → ((emitted : List Emission) (u : S) (mid : List Exchange)
       → count_of ends_by (g emitted (noted_at u mid)).1.exchanges ≡ count_of ends_by mid + ends_in (g emitted (noted_at u mid)).0)
       → count_of ends_by (continue_with r (noted_at t log) (λ i s. next_iteration (noting answer) i.wish i.emitted s
-          (g i.emitted s))).1.exchanges
+      (g i.emitted s))).1.exchanges
       ≡ count_of ends_by before + ends_in (continue_with r (noted_at t log) (λ i s. next_iteration (noting answer) i.wish i.emitted s
-          (g i.emitted s))).0
+      (g i.emitted s))).0
   iteration_ends before (Ok i) t log g c k = next_ends before i.wish i.emitted t log (g i.emitted (noted_at t log)) c.count
       (k i.emitted t log)
   iteration_ends before (Err why) t log g c k = c.count
@@ -105,7 +105,7 @@ module _ {S : Type 0} (answer : S → Call → Reply × S) where
       let q = quiet_finished answer ends_by end_wishes weighs d input x.emitted x.ends t log in
       let z : weigh (λ x. 0) p.0 ≡ 0 = weigh_nothing p.0 in
       agrees_by before log x.ends p.0 (count_of ends_by p.1.exchanges) (omega (arith, q.count, z)) e
-          (exit_ends d input x.emitted x.ends (noted_at t log))
+      (exit_ends d input x.emitted x.ends (noted_at t log))
   exit_then d input before (Err why) t log e = tt
 
   pub session_agrees : (d : Description) (input : SessionIn) (fresh : Bool) (s : S) (before : List Exchange)

@@ -67,7 +67,7 @@ module _ {S : Type 0} (answer : S → Call → Reply × S) where
   loops_iterated ts (suc n) emitted s before = let p : Result Iteration Cause × Noted S = iteration_of (noting answer) ts emitted
       (noted_at s before) in
       looped_parts n before p.0 p.1.state p.1.exchanges (λ emitted s. iterations (noting answer) ts n emitted s)
-          (turned_counts answer asks_by wishes weighs ts emitted s before)
+      (turned_counts answer asks_by wishes weighs ts emitted s before)
       (λ emitted u mid. loops_iterated ts n emitted u mid)
 
   before_parts : {A B : Type 0} (n : ℕ) (before : List Exchange) (r : Result A Cause) (t : S) (log : List Exchange)
@@ -91,11 +91,11 @@ module _ {S : Type 0} (answer : S → Call → Reply × S) where
       → Loops n before (continue_with r (noted_at t log) g)
   behind_parts n before (Ok x) t log g l k = let q = k x t log in let z : weigh (λ x. 0) (g x (noted_at t log)).0 ≡ 0 = weigh_nothing
       (g x (noted_at t log)).0 in record {
-    most = omega (arith, q.count, l.most, z);
-    loop = λ h. absurd (q.no_loop h);
-    only = λ h. let e : again_of log ≡ again_of before + n = omega (arith, q.count, h, z) in let m : Ok x ≡ Err Loop = l.only e in absurd
-        cc;
-  }
+        most = omega (arith, q.count, l.most, z);
+        loop = λ h. absurd (q.no_loop h);
+        only = λ h. let e : again_of log ≡ again_of before + n = omega (arith, q.count, h, z) in let m : Ok x ≡ Err Loop = l.only e in absurd
+            cc;
+      }
   behind_parts n before (Err why) t log g l k = record {
     most = l.most;
     loop = λ h. l.loop (cc);

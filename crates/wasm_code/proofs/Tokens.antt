@@ -75,12 +75,67 @@ only_in op (f ∷ fs) a = by_test (is_of op f) (λ e. e) (only_in op fs a.1)
     by_test false is others = others
 
 control_alone : AllAlone control_table
-control_alone = (tt, (tt, ((refl, refl), ((refl, refl), ((refl, refl), ((refl, refl),
-    ((refl, refl), (tt, (tt, (tt, (tt, (tt, (tt, (tt, (tt, tt)))))))))))))))
+control_alone = (
+  tt,
+  (
+    tt,
+    (
+      (refl, refl),
+      (
+        (refl, refl),
+        (
+          (refl, refl),
+          (
+            (refl, refl),
+            ((refl, refl), (tt, (tt, (tt, (tt, (tt, (tt, (tt, (tt, tt))))))))),
+          ),
+        ),
+      ),
+    ),
+  ),
+)
 
 data_alone : AllAlone data_table
-data_alone = (tt, (tt, (tt, (tt, (tt, (tt, (tt, (tt, (tt, (tt, (tt, (tt, (tt,
-    (tt, (tt, (tt, (tt, (tt, (tt, (tt, (tt, (tt, (tt, tt)))))))))))))))))))))))
+data_alone = (
+  tt,
+  (
+    tt,
+    (
+      tt,
+      (
+        tt,
+        (
+          tt,
+          (
+            tt,
+            (
+              tt,
+              (
+                tt,
+                (
+                  tt,
+                  (
+                    tt,
+                    (
+                      tt,
+                      (
+                        tt,
+                        (
+                          tt,
+                          (tt, (tt, (tt, (tt, (tt, (tt, (tt, (tt, (tt, (tt, tt)))))))))),
+                        ),
+                      ),
+                    ),
+                  ),
+                ),
+              ),
+            ),
+          ),
+        ),
+      ),
+    ),
+  ),
+)
 
 numeric_alone : AllAlone numeric_table
 numeric_alone = (tt, (tt, (tt, (tt, (tt, (tt, (tt, (tt, (tt, (tt, (tt, (tt, (tt, (tt, tt))))))))))))))
@@ -104,14 +159,14 @@ module _ (b : List ℕ) where
       ap (λ i. Ok (Plain i, p)) (sym s.1) ∙ ap (λ k. Ok (Plain i, k)) n
   rest_again at op p next (group.Index what) i text le s h =
       ap (λ r. r >>= λ n. Ok (Plain (indexed_instr op what n.0), n.1)) (u32_again b p next s.0 text s.1 h)
-          ∙ ap (λ i. Ok (Plain i, next)) (sym s.2)
+      ∙ ap (λ i. Ok (Plain i, next)) (sym s.2)
   rest_again at op p next (group.Access bytes) i text le s h =
       let t = s.2 in
       let both = same_text b p next text (t.0 ++ t.1) t.2 h in
       ap (λ r. r >>= λ a. u32_at b a.1 >>= λ o. Ok (Plain (instr.Access op a.0 o.0), o.1))
-          (u32_again b p (p + length t.0) s.0 t.0 t.3 (here_first b p next t.0 t.1 both))
+      (u32_again b p (p + length t.0) s.0 t.0 t.3 (here_first b p next t.0 t.1 both))
       ∙ ap (λ r. r >>= λ o. Ok (Plain (instr.Access op s.0 o.0), o.1))
-          (u32_again b (p + length t.0) next s.1 t.1 t.4 (here_second b p next t.0 t.1 both))
+      (u32_again b (p + length t.0) next s.1 t.1 t.4 (here_second b p next t.0 t.1 both))
       ∙ ap (λ i. Ok (Plain i, next)) (sym s.3)
   rest_again at op p next (group.Constant I32) i text le s h =
       ap (λ r. r >>= λ z. Ok (Plain (instr.I32Const z.0), z.1)) (s32_again b p next s.0 text s.1 h) ∙ ap (λ i. Ok (Plain i, next)) (sym s.2)
@@ -123,17 +178,17 @@ module _ (b : List ℕ) where
       let t = s.1 in
       let both = same_text b p next text (t.0 ++ t.1) t.2 h in
       ap (λ r. r >>= λ n. zero_at b n.1 >>= λ m. Ok (Plain (instr.CallIndirect n.0), m))
-          (u32_again b p (p + length t.0) s.0 t.0 t.3 (here_first b p next t.0 t.1 both))
+      (u32_again b p (p + length t.0) s.0 t.0 t.3 (here_first b p next t.0 t.1 both))
       ∙ ap (λ r. r >>= λ m. Ok (Plain (instr.CallIndirect s.0), m))
-          (zero_again b (p + length t.0) next t.1 t.4 (here_second b p next t.0 t.1 both))
+      (zero_again b (p + length t.0) next t.1 t.4 (here_second b p next t.0 t.1 both))
       ∙ ap (λ i. Ok (Plain i, next)) (sym s.2)
   rest_again at op p next group.Table i text le s h =
       let t = s.2 in
       let both = same_text b p next text (t.0 ++ t.1) t.2 h in
       ap (λ r. r >>= λ ls. u32_at b ls.1 >>= λ d. Ok (Plain (instr.BrTable ls.0 d.0), d.1))
-          (labels_tell.again b p (p + length t.0) s.0 t.0 t.3 (here_first b p next t.0 t.1 both))
+      (labels_tell.again b p (p + length t.0) s.0 t.0 t.3 (here_first b p next t.0 t.1 both))
       ∙ ap (λ r. r >>= λ d. Ok (Plain (instr.BrTable s.0 d.0), d.1))
-          (u32_again b (p + length t.0) next s.1 t.1 t.4 (here_second b p next t.0 t.1 both))
+      (u32_again b (p + length t.0) next s.1 t.1 t.4 (here_second b p next t.0 t.1 both))
       ∙ ap (λ i. Ok (Plain i, next)) (sym s.3)
   rest_again at op p next (group.Opens k) i text le s h = absurd s
   rest_again at op p next group.Else i text le s h = absurd s

@@ -53,11 +53,11 @@ module _ (body : ℕ) (b : List ℕ) where
       let m : p + 1 ≡ mid = omega (arith, h4.size) in
       let others = runs_again runs (room - run.0) mid next two (omega arith) (omega (arith, h1.within)) s.4 h2 in
       ap (λ r. r >>= λ count. refuse_if (nat_lt room count.0) (Limit body) >>= λ fine. type_at b count.1 >>= λ type. runs_at body b
-          (room - count.0) (length runs) type.1 >>= before_run count.0 type.0) (u32_again b at p run.0 t.0 t.3 h3)
+      (room - count.0) (length runs) type.1 >>= before_run count.0 type.0) (u32_again b at p run.0 t.0 t.3 h3)
       ∙ goes_past (nat_lt room run.0) (Limit body) (λ fine. type_at b p >>= λ type. runs_at body b (room - run.0) (length runs) type.1 >>=
-          before_run run.0 type.0) fine
+      before_run run.0 type.0) fine
       ∙ ap (λ r. r >>= λ type. runs_at body b (room - run.0) (length runs) type.1 >>= before_run run.0 type.0)
-          (type_again b p mid run.1 [] h4)
+      (type_again b p mid run.1 [] h4)
       ∙ ap (λ n. runs_at body b (room - run.0) (length runs) n >>= before_run run.0 run.1) m
       ∙ ap (λ r. r >>= before_run run.0 run.1) others
 
@@ -77,7 +77,7 @@ module _ (body : ℕ) (b : List ℕ) where
   abbrev RunsHere : ℕ → ℕ → ℕ → ℕ → List ValType → Type 0
   RunsHere room n at next locals =
       (runs : List (ℕ × ValType)) × (text : List ℕ) × (locals ≡ locals_of runs) × (length locals ≤ room) × (length runs ≡ n) × Here b at
-          text next × SpellsEach SpellsRun runs text
+      text next × SpellsEach SpellsRun runs text
 
   module _ (fits : IsBytes b) where
     runs_here : (n room at next : ℕ) (locals : List ValType) → at ≤ length b → runs_at body b room n at ≡ Ok (locals, next)
@@ -92,12 +92,12 @@ module _ (body : ℕ) (b : List ℕ) where
         ([], [], sym none, small, refl, subst (Here b at []) place (nothing_here b at le), refl)
     runs_here (suc n) room at next locals le e =
         let count = bind_ok (u32_at b at) (λ count. refuse_if (nat_lt room count.0) (Limit body) >>= λ fine. type_at b count.1 >>= λ type.
-            runs_at body b (room - count.0) n type.1 >>= before_run count.0 type.0) (locals, next) e in
+        runs_at body b (room - count.0) n type.1 >>= before_run count.0 type.0) (locals, next) e in
         let c = count.0.0 in
         let fine = not_refused (nat_lt room c) (Limit body) (λ fine. type_at b count.0.1 >>= λ type. runs_at body b (room - c) n type.1 >>=
-            before_run c type.0) (locals, next) count.2 in
+        before_run c type.0) (locals, next) count.2 in
         let type = bind_ok (type_at b count.0.1) (λ type. runs_at body b (room - c) n type.1 >>= before_run c type.0) (locals, next) fine.1
-            in
+        in
         let rest = bind_ok (runs_at body b (room - c) n type.0.1) (before_run c type.0.0) (locals, next) type.2 in
         let h1 = u32_here b fits at count.0.1 c le count.1 in
         let h2 = type_here b count.0.1 type.0.1 type.0.0 type.1 in
@@ -108,7 +108,7 @@ module _ (body : ℕ) (b : List ℕ) where
         let place : rest.0.1 ≡ next = ap (λ (p : List ValType × ℕ). p.1) same in
         let enough : c ≤ room = ltb-false room c fine.0 in
         let sizes : length locals ≤ room = subst (λ l. length l ≤ room) is_locals
-            (omega (arith, length-append (replicate c type.0.0) rest.0.0, length-replicate c type.0.0, x.3)) in
+        (omega (arith, length-append (replicate c type.0.0) rest.0.0, length-replicate c type.0.0, x.3)) in
         let one_text = h1.0 ++ type_byte type.0.0 ∷ [] in
         let one_here = here_join b at count.0.1 type.0.1 h1.0 (type_byte type.0.0 ∷ []) h1.1 h2 in
         let run : ℕ × ValType = (c, type.0.0) in (
@@ -127,9 +127,11 @@ module _ (body : ℕ) (b : List ℕ) where
     locals_here at next locals le e =
         let count = bind_ok (u32_at b at) (λ count. runs_at body b most_locals count.0 count.1) (locals, next) e in
         let h = u32_here b fits at count.0.1 count.0.0 le count.1 in
-        let x = runs_here count.0.0 most_locals count.0.1 next locals h.1.within count.2 in
-        (h.0 ++ x.1, here_join b at count.0.1 next h.0 x.1 h.1 x.5,
-            (x.0, x.2, x.3, (h.0, x.1, refl, subst (SpellsUnsigned 32 h.0) (sym x.4) h.2, x.6)))
+        let x = runs_here count.0.0 most_locals count.0.1 next locals h.1.within count.2 in (
+          h.0 ++ x.1,
+          here_join b at count.0.1 next h.0 x.1 h.1 x.5,
+          (x.0, x.2, x.3, (h.0, x.1, refl, subst (SpellsUnsigned 32 h.0) (sym x.4) h.2, x.6)),
+        )
 
   -- ---- the content of a body
 
@@ -143,7 +145,7 @@ module _ (body : ℕ) (b : List ℕ) where
       let k = same_text b at next text (s.0 ++ s.1) s.2 h in
       let mid = at + length s.0 in
       ap (λ r. r >>= λ locals. code_at b locals.1 >>= finish f.ty locals.0)
-          (locals_again f.locals at mid s.0 s.3 (here_first b at next s.0 s.1 k))
+      (locals_again f.locals at mid s.0 s.3 (here_first b at next s.0 s.1 k))
       ∙ ap (λ r. r >>= finish f.ty f.locals) (code_again b f.code s.1 mid next s.4 (here_second b at next s.0 s.1 k))
 
   content_here : IsBytes b → (ty at next : ℕ) (f : NestedFunc) → at ≤ length b → content_at ty body b at ≡ Ok (f, next)
@@ -175,7 +177,7 @@ module _ (b : List ℕ) where
   sized : (ty at : ℕ) → Tells (SpellsSized (OfType ty)) (sized_at (λ end. Short (length b)) (Size at) (content_at ty at))
   sized ty at =
       sized_tells (OfType ty) (content_at ty at) (fills_of (OfType ty) (content_at ty at) (content_tells ty at)) (λ end. Short (length b))
-          (Size at)
+      (Size at)
 
   pub body_again : (f : NestedFunc) (at next : ℕ) (text : List ℕ) → SpellsBody f text → Here b at text next
       → body_at f.ty b at ≡ Ok (f, next)
@@ -191,8 +193,11 @@ module _ (b : List ℕ) where
       (x.0, x.1, s.4.0, (s.0, s.1, s.2, s.3, s.4.1))
 
 pub whole_here : (text : List ℕ) → Here text 0 text (length text)
-whole_here text = record { whole = sym (ap (λ l. text ++ l) (nothing_left text) ∙ append-nil text); size = omega arith; within = omega arith
-    }
+whole_here text = record {
+  whole = sym (ap (λ l. text ++ l) (nothing_left text) ∙ append-nil text);
+  size = omega arith;
+  within = omega arith;
+}
   where
     nothing_left : (l : List ℕ) → drop (length l) l ≡ []
     nothing_left [] = refl
@@ -221,13 +226,13 @@ module _ (b : List ℕ) (end at ty : ℕ) (inside : end ≤ length b) where
           let size = region_size b end inside in
           let x = body_here (take end b) (take_fits end b fits) ty at q.1 q.0 (omega arith) is in
           subst (λ (p : Func × ℕ). (f : NestedFunc) × (text : List ℕ) × (p.0 ≡ flat_func f) × (f.ty ≡ ty) × (p.1 ≤ end) × Here b at text p.1
-              × SpellsBody f text) same
+          × SpellsBody f text) same
           (q.0, x.0, refl, x.2, omega (arith, x.1.within), widen b end inside at q.1 x.0 x.1, x.3)
 
   pub is_read : (r : Result (Func × ℕ) Fault) → Gives (λ p. p) r (flat_read (body_at ty (take end b) at))
       → (f : NestedFunc) (text : List ℕ) (next : ℕ) → f.ty ≡ ty → next ≤ end → Here b at text next → SpellsBody f text
-          → Gives (λ p. p) r (Ok (flat_func f, next))
+      → Gives (λ p. p) r (Ok (flat_func f, next))
   is_read r given f text next same le h s =
       let again : body_at ty (take end b) at ≡ Ok (f, next) = subst (λ t. body_at t (take end b) at ≡ Ok (f, next)) same
-          (body_again (take end b) f at next text s (narrow b end inside at next text le h)) in
+      (body_again (take end b) f at next text s (narrow b end inside at next text le h)) in
       subst (Gives (λ p. p) r) (ap flat_read again) given

@@ -63,7 +63,7 @@ module _ (b : List ℕ) where
       (zero_then InBody allows b x.1 (λ end. Ok (Plain (instr.CallIndirect x.0), end)) to (λ y on end. (on, end))))
   from_next op p group.Table at le within =
       then InBody b p (vector_at u32_at b p) (λ labels. u32_at b labels.1 >>= λ default. Ok
-          (Plain (instr.BrTable labels.0 default.0), default.1)) (vector_stays InBody allows u32_at (u32_stays InBody allows) b p within)
+      (Plain (instr.BrTable labels.0 default.0), default.1)) (vector_stays InBody allows u32_at (u32_stays InBody allows) b p within)
       (λ x more to. earlier InBody b p (u32_at b x.1 >>= λ default. Ok (Plain (instr.BrTable x.0 default.0), default.1)) x.1 more
       (u32_then x.1 (λ default. Ok (Plain (instr.BrTable x.0 default.0), default.1)) to (λ y on end. (on, end))))
   from_next op p group.Float at le within = allows.float (length b) at (omega arith)
@@ -74,7 +74,7 @@ module _ (b : List ℕ) where
   token_stays at le =
       then InBody b at (byte_at b at) (λ op. immediates_at b at op.0 op.1 (group_of op.0)) (byte_stays InBody allows b at le)
       (λ op more within. earlier InBody b at (immediates_at b at op.0 op.1 (group_of op.0)) op.1 more
-          (from_next op.0 op.1 (group_of op.0) at more within))
+      (from_next op.0 op.1 (group_of op.0) at more within))
 
   module _ (at : ℕ) where
     abbrev Goes : (ℕ → List Open → (Code → Code) → Read Code) → Type 0
@@ -112,7 +112,7 @@ module _ (b : List ℕ) where
     code_lies zero place os list le within = allows.short (length b)
     code_lies (suc fuel) place os list le within =
         then InBody b at (token_at b place) (λ token. act (code_from fuel b) b place os list token.0 token.1)
-            (earlier InBody b at (token_at b place) place le (token_stays place within))
+        (earlier InBody b at (token_at b place) place le (token_stays place within))
         (λ t more to. act_lies (code_from fuel b) (code_lies fuel) place t.1 more to within t.0 os list)
 
   module _ (body at : ℕ) (behind : body ≤ at) where
@@ -121,14 +121,14 @@ module _ (b : List ℕ) where
     runs_lie zero room place le within = (le, within)
     runs_lie (suc n) room place le within =
         then InBody b at (u32_at b place) (λ count. refuse_if (nat_lt room count.0) (Limit body) >>= λ fine. type_at b count.1 >>= λ type.
-            runs_at body b (room - count.0) n type.1 >>= before_run count.0 type.0)
+        runs_at body b (room - count.0) n type.1 >>= before_run count.0 type.0)
         (earlier InBody b at (u32_at b place) place le (u32_stays InBody allows b place within))
         (λ count more to. unless InBody b at (nat_lt room count.0) (Limit body)
-            (λ fine. type_at b count.1 >>= λ type. runs_at body b (room - count.0) n type.1 >>= before_run count.0 type.0) (tt, omega arith)
+        (λ fine. type_at b count.1 >>= λ type. runs_at body b (room - count.0) n type.1 >>= before_run count.0 type.0) (tt, omega arith)
         (λ fine. then InBody b at (type_at b count.1) (λ type. runs_at body b (room - count.0) n type.1 >>= before_run count.0 type.0)
         (earlier InBody b at (type_at b count.1) count.1 more (type_stays InBody allows b count.1 to))
         (λ type on end. then InBody b at (runs_at body b (room - count.0) n type.1) (before_run count.0 type.0)
-            (runs_lie n (room - count.0) type.1 on end) (λ rest from stop. (from, stop)))))
+        (runs_lie n (room - count.0) type.1 on end) (λ rest from stop. (from, stop)))))
 
     locals_lie : at ≤ length b → Lies b at (locals_at body b at)
     unfolding locals_at
@@ -140,9 +140,9 @@ module _ (b : List ℕ) where
     unfolding content_at
     content_lies ty within =
         then InBody b at (locals_at body b at) (λ locals. code_at b locals.1 >>= λ code. Ok
-            (record { ty = ty; locals = locals.0; code = code.0 }, code.1)) (locals_lie within)
+        (record { ty = ty; locals = locals.0; code = code.0 }, code.1)) (locals_lie within)
         (λ locals more to. then InBody b at (code_at b locals.1) (λ code. Ok (record { ty = ty; locals = locals.0; code = code.0 }, code.1))
-            (code_lies at (length b) locals.1 [] (λ rest. rest) more to) (λ code on end. (on, end)))
+        (code_lies at (length b) locals.1 [] (λ rest. rest) more to) (λ code on end. (on, end)))
 
 -- a body lies in its region, and so does its first fault, which is one of code
 pub body_stays : (ty : ℕ) → Stays InBody (body_at ty)

@@ -104,7 +104,7 @@ pub falls : (fm : Module) (n : ℕ) (k new : Stack) (s t : Store) (f g : ℕ) �
     → step_in fm k s f ≡ seen turn.Go new t g → (left_of new g < left_of k f) × (n ≤ length t.bytes)
 falls fm n k new s t f g le inside e =
     subst (Falls (left_of k f) n) e (step_falls (nested_module fm) fm n s le k.func k.position k.base k.depth k.values k.labels k.callers f
-        inside)
+    inside)
 
 -- ---- memory
 
@@ -131,7 +131,7 @@ larger_more n k (Stop a) le lt = lt
 pub never_larger : (fm : Module) (c : IsChecked fm) (i : ℕ) (arguments : List ℕ) (q : Fits fm i arguments) (s0 : Store) (f0 : ℕ) (k : Stack)
     (s : Store) (f : ℕ)
     → Stays fm k s f (meant fm i arguments s0 f0) → length s0.bytes ≤ length s.bytes → LargerStep (length s.bytes) (step_in fm k s f)
-        → KeepsSize (length s0.bytes) (meant fm i arguments s0 f0) → ⊥
+    → KeepsSize (length s0.bytes) (meant fm i arguments s0 f0) → ⊥
 never_larger fm c i arguments q s0 f0 k s f x le lt size =
     let r = meant fm i arguments s0 f0 in
     let ok = is_fine fm c i arguments q s0 f0 in
@@ -144,7 +144,7 @@ pub step_is : (fm : Module) (k : Stack) (s : Store) (f g : ℕ) (fl : Func) (x :
     → slice_get fl.body k.position ≡ Some x → f ≡ suc g → step_in fm k s f ≡ executing_in fm x k s g
 step_is fm k s f g fl x has at e =
     ap (λ o. where_found o (λ (fl : Func). executing (nested_module fm) fm (slice_get fl.body k.position) k.func k.position k.base k.depth
-        k.values k.labels k.callers s f)) has
+    k.values k.labels k.callers s f)) has
     ∙ ap (λ o. executing (nested_module fm) fm o k.func k.position k.base k.depth k.values k.labels k.callers s f) at
     ∙ ap (λ f. executing (nested_module fm) fm (Some x) k.func k.position k.base k.depth k.values k.labels k.callers s f) e
 

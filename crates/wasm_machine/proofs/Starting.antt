@@ -42,6 +42,6 @@ can_start_is m index false is h = absurd (let wrong : Some 0 ≡ None = sym (ap 
 pub start_fits : (m : Module) (index : ℕ) → IsValid (nested_module m) → m.start ≡ Some index → Fits m index []
 start_fits m index valid is =
     let passes : failing_start (nested_module m) (Some index) ≡ None = subst (λ o. failing_start (nested_module m) o ≡ None) is
-        (start_passes (nested_module m) valid) in
+    (start_passes (nested_module m) valid) in
     let can = can_start_is (nested_module m) index (can_start (type_of_function (nested_module m) index)) refl passes in
     by_function m index (function_at (nested_module m) index) refl can

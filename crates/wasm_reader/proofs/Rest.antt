@@ -85,7 +85,7 @@ module _ (b : List ℕ) (p : Sofar) (left i place : ℕ) (total : Result Sofar F
       let made : List Section × ℕ = ([], place) in
       ap (λ n. sections_at n (before_of p) b place) k
       ∙ ap (λ t. cond t (section_at (before_of p) b place >>= sections_then (left - (i + 1)) (before_of p) b) (Ok made))
-          (lt-ltb place (length b) within)
+      (lt-ltb place (length b) within)
 
   goes_on : (y : Part) (next : ℕ) → i < left → place < length b → flat_part (section_at (before_of p) b place) ≡ Ok (y, next)
       → ends_in p (sections_at (left - i) (before_of p) b place) ≡ total
@@ -129,7 +129,7 @@ pub put_on : (b : List ℕ) (p q : Sofar) (left i place : ℕ) (total : Result S
     → ends_in q (sections_at (left - (i + 1)) (before_of q) b next) ≡ total
 put_on b p q left i place total y next is lt within h so_far =
     subst (λ (q : Sofar). ends_in q (sections_at (left - (i + 1)) (before_of q) b next) ≡ total) (sym is)
-        (goes_on b p left i place total y next lt within h so_far)
+    (goes_on b p left i place total y next lt within h so_far)
 
 -- ---- the module
 
@@ -172,7 +172,7 @@ rest_is b at = by_read (sections_at (length b) start b at)
         let h = all_put xs.0 kind.Custom [] empty in
         by_test (lacks_bodies xs.0) m
         ∙ ap (λ n. refuse_if (not (eqb n (length indices))) (fault.Count (length b)) >>= λ fine. Ok (flat_module m))
-            (sym (length-map m.funcs flat_func))
+        (sym (length-map m.funcs flat_func))
         ∙ ap (finished (length b)) (sym h.1)
 
 -- what stands behind the header is read as its sections make it

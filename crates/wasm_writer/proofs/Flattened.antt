@@ -39,7 +39,7 @@ closed : (one two : List Instr) (c d : List ℕ) (i : Instr) → each_text instr
     → each_text instr_text (one ++ i ∷ two) ≡ c ++ (instr_text i ++ d)
 closed one two c d i e f =
     each_text-append instr_text one (i ∷ two) ∙ ap (λ l. l ++ (instr_text i ++ each_text instr_text two)) e
-        ∙ ap (λ l. c ++ (instr_text i ++ l)) f
+    ∙ ap (λ l. c ++ (instr_text i ++ l)) f
 
 flat_code_text : (c : Code) (p : ℕ) → each_text instr_text (flat_code c p) ≡ code_text c
 flat_code_text Nil p = refl
@@ -47,22 +47,22 @@ flat_code_text (Leaf i rest) p = ap (λ l. instr_text i ++ l) (flat_code_text re
 flat_code_text (InBlock r inner rest) p =
     let e = p + 1 + size inner in
     ap (λ l. 0x02 ∷ block_byte r ∷ l) (closed (flat_code inner (p + 1)) (flat_code rest (e + 1)) (code_text inner) (code_text rest)
-        instr.End (flat_code_text inner (p + 1)) (flat_code_text rest (e + 1)))
+    instr.End (flat_code_text inner (p + 1)) (flat_code_text rest (e + 1)))
 flat_code_text (InLoop r inner rest) p =
     let e = p + 1 + size inner in
     ap (λ l. 0x03 ∷ block_byte r ∷ l) (closed (flat_code inner (p + 1)) (flat_code rest (e + 1)) (code_text inner) (code_text rest)
-        instr.End (flat_code_text inner (p + 1)) (flat_code_text rest (e + 1)))
+    instr.End (flat_code_text inner (p + 1)) (flat_code_text rest (e + 1)))
 flat_code_text (IfOnly r inner rest) p =
     let e = p + 1 + size inner in
     ap (λ l. 0x04 ∷ block_byte r ∷ l) (closed (flat_code inner (p + 1)) (flat_code rest (e + 1)) (code_text inner) (code_text rest)
-        instr.End (flat_code_text inner (p + 1)) (flat_code_text rest (e + 1)))
+    instr.End (flat_code_text inner (p + 1)) (flat_code_text rest (e + 1)))
 flat_code_text (IfElse r first second rest) p =
     let q = p + 1 + size first in
     let e = q + 1 + size second in
     let behind = closed (flat_code second (q + 1)) (flat_code rest (e + 1)) (code_text second) (code_text rest) instr.End
-        (flat_code_text second (q + 1)) (flat_code_text rest (e + 1)) in
+    (flat_code_text second (q + 1)) (flat_code_text rest (e + 1)) in
     ap (λ l. 0x04 ∷ block_byte r ∷ l) (closed (flat_code first (p + 1)) (flat_code second (q + 1) ++ instr.End ∷ flat_code rest (e + 1))
-        (code_text first) (code_text second ++ 0x0B ∷ code_text rest) (instr.Else e) (flat_code_text first (p + 1)) behind)
+    (code_text first) (code_text second ++ 0x0B ∷ code_text rest) (instr.Else e) (flat_code_text first (p + 1)) behind)
 
 flat_expr_text : (c : Code) → each_text instr_text (flat_body c) ≡ expr_text c
 flat_expr_text c = each_text-append instr_text (flat_code c 0) (instr.End ∷ []) ∙ ap (λ l. l ++ 0x0B ∷ []) (flat_code_text c 0)
@@ -91,7 +91,7 @@ flat_text m = ap (λ l. header l (items_text kind.Code flat_body_text (map flat_
     funcs =
         items_text-map flat_func index_text (λ (f : NestedFunc). unsigned_text f.ty) (λ f. refl) kind.Function m.funcs
         ∙ sym (items_text-map (λ (f : NestedFunc). f.ty) unsigned_text (λ (f : NestedFunc). unsigned_text f.ty) (λ f. refl) kind.Function
-            m.funcs)
+        m.funcs)
 
     codes : items_text kind.Code flat_body_text (map flat_func m.funcs) ≡ items_text kind.Code body_text m.funcs
     codes = items_text-map flat_func flat_body_text body_text flat_func_text kind.Code m.funcs
@@ -117,7 +117,7 @@ back n bytes s = module_back n (plain_module n (module_fits n bytes s))
 pub spelled_text : (m : Module) → IsSpelled m → flat_module_text m ≡ module_text (nested_module m)
 spelled_text m s =
     ap flat_module_text s.flat ∙ flat_text s.nested ∙ ap module_text (sym (back s.nested s.bytes s.spelled))
-        ∙ ap (λ m. module_text (nested_module m)) (sym s.flat)
+    ∙ ap (λ m. module_text (nested_module m)) (sym s.flat)
 
 pub spelled_small : (m : Module) → IsSpelled m → length (flat_module_text m) ≤ most_bytes
 spelled_small m s =
@@ -152,4 +152,4 @@ spelled_locals m s =
     let codes = (spelled_of n rest.0 rest.2).parts.codes in
     let each = codes.4.4 in
     subst (λ (m : Module). All FewLocals m.funcs) (sym s.flat) (All-from_recursion FewLocals (map flat_func n.funcs)
-        (few_locals n.funcs codes.4.1 each))
+    (few_locals n.funcs codes.4.1 each))

@@ -25,5 +25,10 @@ load_fits : IsBytes load_bytes
 load_fits = bytes_of_all load_bytes (All-from_recursion (λ b. b < 256) load_bytes (search arith))
 
 pub load_is_spelled : (m : Module) → m ≡ flat_module load_module → IsSpelled m
-load_is_spelled m is = record { nested = load_module; flat = is; bytes = load_bytes; spelled = module_here tell load_module load_bytes
-    load_fits load_is_read }
+load_is_spelled m is = record {
+  nested = load_module;
+  flat = is;
+  bytes = load_bytes;
+  spelled = module_here tell load_module load_bytes
+      load_fits load_is_read;
+}

@@ -39,5 +39,5 @@ returns-in-Err-clause-whole g c =
     (λ fault is. c.call_report.ensures.refused fault (c.in-Err.is ∙ ap (λ x. Err x) is)) in
     subst (λ s. IsFault s ⊎ WritesAll g.O.Sink c.args.out.now c.args.out.now (call_lines words read)) (sym c.uncalled.ensures.status)
     (subst (λ (w : CallWords). IsFault (uncalled_status c.in-Err.error) ⊎ WritesAll g.O.Sink c.args.out.now c.args.out.now
-        (call_lines w read)) as_meant
+    (call_lines w read)) as_meant
     (whole g.O.Sink c.args.out.now _ (call_lines given read) silent))

@@ -26,13 +26,13 @@ returns-in-Err-Memory-clause-spared g c line first = absurd (not_refused c.args.
 pub returns-in-Err-clause-answer : goal.returns-in-Err-clause-answer
 returns-in-Err-clause-answer g c a read =
     let e : Names c.in-Err.error a = named c.args.bytes.now c.read_play.result c.in-Err.error c.read_play.ensures.only
-        c.read_play.ensures.refused c.in-Err.is a read in
+    c.read_play.ensures.refused c.in-Err.is a read in
     subst (λ s. IsFault s ⊎ (s ≡ status_of c.args.budget (placed a))) (sym c.unplayed.ensures.status)
-        (answer c.args.budget c.in-Err.error a e)
+    (answer c.args.budget c.in-Err.error a e)
 
 pub returns-in-Err-clause-whole : goal.returns-in-Err-clause-whole
 returns-in-Err-clause-whole g c a read =
     let e : Names c.in-Err.error a = named c.args.bytes.now c.read_play.result c.in-Err.error c.read_play.ensures.only
-        c.read_play.ensures.refused c.in-Err.is a read in
+    c.read_play.ensures.refused c.in-Err.is a read in
     subst (λ s. IsFault s ⊎ WritesAll g.O.Sink c.args.out.now c.args.out.now (lines_of c.args.budget (placed a)))
-        (sym c.unplayed.ensures.status) (whole g.O.Sink c.args.out.now c.args.budget c.in-Err.error a e)
+    (sym c.unplayed.ensures.status) (whole g.O.Sink c.args.out.now c.args.budget c.in-Err.error a e)

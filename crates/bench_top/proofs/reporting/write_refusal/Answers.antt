@@ -12,17 +12,17 @@ returns-in-Description-clause-line g c =
     let place : c.as_bytes-place.result.now ≡ decimal refusal.place = search rules in
     let at : c.as_bytes-at.result.now ≡ decimal refusal.at = search rules in
     let numbered : line_pieces (codes "refused" ∷ codes "description" ∷ c.as_bytes-number.result.now ∷ c.why_name-why.result.now
-        ∷ c.as_bytes-place.result.now ∷ []) c.as_bytes-at.result.now
+    ∷ c.as_bytes-place.result.now ∷ []) c.as_bytes-at.result.now
     ≡ line_pieces (codes "refused" ∷ codes "description" ∷ decimal c.in-Description.number ∷ why_text refusal.why ∷ decimal refusal.place
-        ∷ []) (decimal refusal.at) =
+    ∷ []) (decimal refusal.at) =
     ap (λ (text : List ℕ). line_pieces (codes "refused" ∷ codes "description" ∷ text ∷ c.why_name-why.result.now
-        ∷ c.as_bytes-place.result.now ∷ []) c.as_bytes-at.result.now) number
+    ∷ c.as_bytes-place.result.now ∷ []) c.as_bytes-at.result.now) number
     ∙ ap (λ (text : List ℕ). line_pieces (codes "refused" ∷ codes "description" ∷ decimal c.in-Description.number ∷ text
-        ∷ c.as_bytes-place.result.now ∷ []) c.as_bytes-at.result.now) c.why_name-why.ensures
+    ∷ c.as_bytes-place.result.now ∷ []) c.as_bytes-at.result.now) c.why_name-why.ensures
     ∙ ap (λ (text : List ℕ). line_pieces (codes "refused" ∷ codes "description" ∷ decimal c.in-Description.number ∷ why_text refusal.why
-        ∷ text ∷ []) c.as_bytes-at.result.now) place
+    ∷ text ∷ []) c.as_bytes-at.result.now) place
     ∙ ap (λ (text : List ℕ). line_pieces (codes "refused" ∷ codes "description" ∷ decimal c.in-Description.number ∷ why_text refusal.why
-        ∷ decimal refusal.place ∷ []) text) at in
+    ∷ decimal refusal.place ∷ []) text) at in
     let line = subst (λ (pieces : List (List ℕ)). OnOk c.write_line-in-Description.result
     (WritesAll g.R.Sink c.args.report.now c.write_line-in-Description.new.report pieces))
     numbered c.write_line-in-Description.ensures.line in

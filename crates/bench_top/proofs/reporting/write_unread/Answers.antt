@@ -10,7 +10,7 @@ returns-in-Description-clause-line g c =
     let number : c.as_bytes-number.result.now ≡ decimal c.in-Description.number = search rules in
     let line = subst (λ (text : List ℕ). OnOk c.write_line-in-Description.result
     (WritesAll g.R.Sink c.args.report.now c.write_line-in-Description.new.report
-        (line_pieces (codes "unread" ∷ codes "description" ∷ []) text)))
+    (line_pieces (codes "unread" ∷ codes "description" ∷ []) text)))
     number c.write_line-in-Description.ensures.line in
     subst (λ (file : FileId). OnOk c.write_line-in-Description.result
     (WritesAll g.R.Sink c.args.report.now c.write_line-in-Description.new.report (unread_pieces file)))

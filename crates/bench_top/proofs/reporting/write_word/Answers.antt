@@ -12,7 +12,7 @@ returns-in_err-write-clause-part g c =
     let part : AppendedPart (g.R.Sink.written c.args.report.now) (g.R.Sink.written c.write.new.self) word = search rules in
     at_err c.from_residual.result (breaks_behind g.R.Sink c.args.report.now c.args.report.now c.write.new.self [] (word ∷ []) (end ∷ []) _
     (writes_nothing g.R.Sink c.args.report.now) (breaks_one g.R.Sink c.args.report.now c.write.new.self word part c.write.ensures.made)
-        refl)
+    refl)
 
 pub returns-clause-part : goal.returns-clause-part
 returns-clause-part g c =
@@ -20,8 +20,8 @@ returns-clause-part g c =
     let end = c.args.end ∷ [] in
     let wrote : Appended (g.R.Sink.written c.args.report.now) (g.R.Sink.written c.write.new.self) word = search rules in
     let part : OnErr c.write-2.result (AppendedPart (g.R.Sink.written c.write.new.self) (g.R.Sink.written c.write-2.new.self) end) = search
-        rules in
+    rules in
     on_err c.write-2.result (λ broke. breaks_behind g.R.Sink c.args.report.now c.write.new.self c.write-2.new.self (word ∷ []) (end ∷ []) []
-        _
+    _
     (writes_one g.R.Sink c.args.report.now c.write.new.self word wrote c.write.ensures.made)
     (breaks_one g.R.Sink c.write.new.self c.write-2.new.self end broke c.write-2.ensures.made) refl) part

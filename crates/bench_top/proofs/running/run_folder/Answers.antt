@@ -76,7 +76,7 @@ returns-in-Err-Unread g c = record {
             named = λ id e.
                 let same : c.in-Err-Unread.file ≡ id = (search rules) ∙ unread_is _ id e in
                 subst (λ x. Contains (asked_of held net) (x, (g.H.Shelf.read_faults c.read_network.new.shelf).last)) (sym file.1 ∙ same)
-                    (is-asked held net file.0 _ file.2 file.3);
+                (is-asked held net file.0 _ file.2 file.3);
           },
         );
     spared = search rules;

@@ -9,5 +9,5 @@ pub returns-in_err-arguments-clause-memory : goal.returns-in_err-arguments-claus
 returns-in_err-arguments-clause-memory c =
     at_err c.from_residual.result (λ e. is_form string_bytes c.args.words.now c.fuel-item.result c.in-Some.fuel c.in-len3-up.len_at_least
     (ap (number_in 0 most_fuel) (ap string_bytes (sym c.fuel-item.is) ∙ sym c.as_bytes.ensures.value) ∙ sym c.number_in.ensures.value
-        ∙ c.in-Some.is)
+    ∙ c.in-Some.is)
     (sym c.are_arguments.ensures ∙ c.if-not-are_arguments.false))

@@ -9,14 +9,14 @@ pub push_all-requires : goal.push_all-requires
 push_all-requires c =
     let s = store_in c.args.pool.now c.args.instance.now in
     let r = arguments_room c.args.parts.now c.requires.checked c.args.func c.args.arguments.now c.requires.fits s c.args.fuel.now
-        c.func_at.result.now c.func_at.ensures in
+    c.func_at.result.now c.func_at.ensures in
     omega (arith, r, ap length c.clear.ensures)
 
 pub push_zeros-requires : goal.push_zeros-requires
 push_zeros-requires c =
     let s = store_in c.args.pool.now c.args.instance.now in
     let r = arguments_room c.args.parts.now c.requires.checked c.args.func c.args.arguments.now c.requires.fits s c.args.fuel.now
-        c.func_at.result.now c.func_at.ensures in
+    c.func_at.result.now c.func_at.ensures in
     let k = ap length c.push_all.ensures ∙ length-append (reverse c.args.arguments.now) c.clear.new.self in
     omega (arith, r, ap length c.clear.ensures, k, length-reverse c.args.arguments.now, ap length c.as_slice-locals.ensures)
 
@@ -25,9 +25,9 @@ loop-end-init c =
     let s = store_in c.args.pool.now c.args.instance.now in
     let q = c.requires.fits in
     let values_are = c.push_zeros.ensures ∙ ap (λ (l : List ℕ). replicate (length c.as_slice-locals.result.now) 0 ++ l)
-        (c.push_all.ensures ∙ ap (λ (l : List ℕ). reverse c.args.arguments.now ++ l) c.clear.ensures
-        ∙ append-nil (reverse c.args.arguments.now)) ∙ ap (λ n. replicate n 0 ++ reverse c.args.arguments.now)
-        (ap length c.as_slice-locals.ensures) in
+    (c.push_all.ensures ∙ ap (λ (l : List ℕ). reverse c.args.arguments.now ++ l) c.clear.ensures
+    ∙ append-nil (reverse c.args.arguments.now)) ∙ ap (λ n. replicate n 0 ++ reverse c.args.arguments.now)
+    (ap length c.as_slice-locals.ensures) in
     record {
       stays = rw (c.clear-2.ensures, c.clear-3.ensures) (starts c.args.parts.now c.requires.checked c.args.func c.args.arguments.now q s
           c.args.fuel.now c.func_at.result.now c.push_zeros.new.values c.func_at.ensures values_are);
@@ -38,14 +38,14 @@ loop-end-init c =
 pub step-requires-clause-fine : goal.step-requires-clause-fine
 step-requires-clause-fine c =
     stays_fine c.args.parts.now c.requires.checked c.args.func c.args.arguments.now c.requires.fits
-        (store_in c.args.pool.now c.args.instance.now) c.args.fuel.now c.loop-end.stack (store_in c.loop-end.pool c.loop-end.instance)
-        c.loop-end.fuel c.loop-end.invariant.stays
+    (store_in c.args.pool.now c.args.instance.now) c.args.fuel.now c.loop-end.stack (store_in c.loop-end.pool c.loop-end.instance)
+    c.loop-end.fuel c.loop-end.invariant.stays
 
 pub step-requires-clause-room : goal.step-requires-clause-room
 step-requires-clause-room c =
     stays_roomy c.args.parts.now c.requires.checked c.args.func c.args.arguments.now c.requires.fits
-        (store_in c.args.pool.now c.args.instance.now) c.args.fuel.now c.loop-end.stack (store_in c.loop-end.pool c.loop-end.instance)
-        c.loop-end.fuel c.loop-end.invariant.stays
+    (store_in c.args.pool.now c.args.instance.now) c.args.fuel.now c.loop-end.stack (store_in c.loop-end.pool c.loop-end.instance)
+    c.loop-end.fuel c.loop-end.invariant.stays
 
 pub step-requires-clause-ready : goal.step-requires-clause-ready
 step-requires-clause-ready c = ready_of c.args.parts.now c.requires.checked
@@ -55,23 +55,23 @@ returns-in_err-end-clause-room c = λ unshared size.
     let x = c.loop-end.invariant in
     let now = subst (IsUnshared c.loop-end.pool) (sym x.leaves.table) (x.leaves.unshared c.args.instance.now.memory.table unshared) in
     absurd (never_larger c.args.parts.now c.requires.checked c.args.func c.args.arguments.now c.requires.fits
-        (store_in c.args.pool.now c.args.instance.now) c.args.fuel.now c.loop-end.stack (store_in c.loop-end.pool c.loop-end.instance)
-        c.loop-end.fuel x.stays x.grown (c.in_err-end.ensures.larger now) size)
+    (store_in c.args.pool.now c.args.instance.now) c.args.fuel.now c.loop-end.stack (store_in c.loop-end.pool c.loop-end.instance)
+    c.loop-end.fuel x.stays x.grown (c.in_err-end.ensures.larger now) size)
 
 pub loop-end-smaller : goal.loop-end-smaller
 loop-end-smaller c =
     let room = stays_roomy c.args.parts.now c.requires.checked c.args.func c.args.arguments.now c.requires.fits
-        (store_in c.args.pool.now c.args.instance.now) c.args.fuel.now c.loop-end.stack (store_in c.loop-end.pool c.loop-end.instance)
-        c.loop-end.fuel c.loop-end.invariant.stays in
+    (store_in c.args.pool.now c.args.instance.now) c.args.fuel.now c.loop-end.stack (store_in c.loop-end.pool c.loop-end.instance)
+    c.loop-end.fuel c.loop-end.invariant.stays in
     (falls c.args.parts.now (length (bytes_in c.args.pool.now c.args.instance.now.memory)) c.loop-end.stack c.step.new.self
-        (store_in c.loop-end.pool c.loop-end.instance) (store_in c.step.new.pool c.step.new.instance) c.loop-end.fuel c.step.new.fuel
-        c.loop-end.invariant.grown room.inside (rw c.in-Go.is at c.in_ok-end.ensures.step)).0
+    (store_in c.loop-end.pool c.loop-end.instance) (store_in c.step.new.pool c.step.new.instance) c.loop-end.fuel c.step.new.fuel
+    c.loop-end.invariant.grown room.inside (rw c.in-Go.is at c.in_ok-end.ensures.step)).0
 
 pub loop-end-preserved : goal.loop-end-preserved
 loop-end-preserved c =
     let room = stays_roomy c.args.parts.now c.requires.checked c.args.func c.args.arguments.now c.requires.fits
-        (store_in c.args.pool.now c.args.instance.now) c.args.fuel.now c.loop-end.stack (store_in c.loop-end.pool c.loop-end.instance)
-        c.loop-end.fuel c.loop-end.invariant.stays in
+    (store_in c.args.pool.now c.args.instance.now) c.args.fuel.now c.loop-end.stack (store_in c.loop-end.pool c.loop-end.instance)
+    c.loop-end.fuel c.loop-end.invariant.stays in
     let went = rw c.in-Go.is at c.in_ok-end.ensures.step in
     record {
       stays = stays_on c.args.parts.now c.requires.checked c.args.func c.args.arguments.now c.requires.fits

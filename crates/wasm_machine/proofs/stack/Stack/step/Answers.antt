@@ -11,7 +11,7 @@ returns c =
     let g = c.args.fuel.now - 1 in
     let e : c.args.fuel.now ≡ suc g = omega (arith, c.if-fuel-eq0.false) in
     let is = step_is c.args.parts.now c.args.self.now s c.args.fuel.now g c.func_at.result.now c.instr_at-instr.result.now c.func_at.ensures
-        c.instr_at-instr.ensures.instr e in
+    c.instr_at-instr.ensures.instr e in
     record {
       step = subst (λ st. IfOk c.execute.result (λ t. st ≡ seen t c.execute.new.self (store_in c.execute.new.pool c.execute.new.instance)
           g)) (sym is) (c.execute.ensures.step g);
