@@ -4,3 +4,4 @@ pub mod Fields
 pub mod Written
 pub mod Spelled
 pub mod Exact
+pub mod Fitting
