@@ -1,6 +1,7 @@
 -- What is written into an area, and what comes before the function of a call, as pieces.
-use Rattle.std.specs.Prelude.{◌≡◌, ℕ, ◌+◌, true, false, List, [], Ok, Err, length, nat_le, refl, if◌then◌else◌}
-use Rattle.std.proofs.Common.{sym, ap, ◌∙◌}
+use Rattle.std.specs.Prelude.{◌≡◌, ℕ, ◌+◌, true, false, List, [], Result, Ok, Err, length, nat_le, refl, if◌then◌else◌}
+use Rattle.std.proofs.Common.{sym, ap, ◌∙◌, subst}
+use Rattle.fmi_states.specs.declared.status.FmiStatus.{FmiStatus}
 use Rattle.fmi_states.specs.declared.status.FmiStatus.TheVariants as status
 use Rattle.fmi_states.specs.declared.call.Call.{Call}
 use Rattle.fmi_states.specs.declared.call.Call.TheVariants as call
@@ -11,10 +12,11 @@ use Rattle.code_specs.specs.Stores.{Store, replaced_at}
 use Rattle.wasm_memory.specs.Pools.{Tables}
 use Rattle.wasm_machine.specs.declared.instance.Instance.{Instance}
 use Rattle.wasm_machine.specs.Instances.{Stands, Leaves}
+use Rattle.binding_specs.specs.declared.function.Function.{Function}
 use Rattle.binding_specs.specs.declared.function.Function.TheVariants as function
 use Rattle.binding_specs.specs.Guests.{Guest}
 use Rattle.binding_specs.specs.Pieces.{gives, writes}
-use Rattle.binding_specs.specs.Exchanges.{calls, prepares, status_by}
+use Rattle.binding_specs.specs.Exchanges.{calls, prepares, function_of, arguments_of, status_of, status_by}
 use Rattle.binding_laws.specs.Words.{is_instantiation}
 use Rattle.fmi_binding.specs.Coming.{Held, work_with, Comes, HasLength}
 use Rattle.fmi_binding.proofs.Coming.{comes_on, comes_broken, gives_comes}
@@ -84,6 +86,32 @@ freed g h k numbers called = comes_on (calls g function.Free []) (λ numbers. gi
 
 pub not_freed : (g : Guest) (h k : Held) (why : Broken) → Comes (calls g function.Free []) h k (Err why) → Comes (status_by g call.Free) h k (Err why)
 not_freed g h k why called = comes_broken (calls g function.Free []) (λ numbers. gives status.Ok) h k why called
+
+-- another function than fmi3FreeInstance returns its status
+by_status : (g : Guest) (c : Call) (h k : Held) (r : Result FmiStatus Broken) → (c ≡ call.Free → ⊥)
+    → Comes (status_of g (function_of c) (arguments_of c)) h k r → Comes (status_by g c) h k r
+by_status g call.Instantiate h k r other ran = ran
+by_status g call.EnterInit h k r other ran = ran
+by_status g call.ExitInit h k r other ran = ran
+by_status g call.EnterEvent h k r other ran = ran
+by_status g call.EnterStep h k r other ran = ran
+by_status g (call.SetClock reference) h k r other ran = ran
+by_status g (call.SetBinary reference bytes) h k r other ran = ran
+by_status g (call.GetClock reference) h k r other ran = ran
+by_status g (call.GetBinary reference) h k r other ran = ran
+by_status g call.Update h k r other ran = ran
+by_status g (call.GetInterval reference) h k r other ran = ran
+by_status g (call.DoStep from size) h k r other ran = ran
+by_status g call.Terminate h k r other ran = ran
+by_status g call.Free h k r other ran = absurd (other refl)
+
+pub named_status : (g : Guest) (c : Call) (f : Function) (numbers : List ℕ) (h k : Held) (r : Result FmiStatus Broken)
+    → (c ≡ call.Free → ⊥) → f ≡ function_of c → numbers ≡ arguments_of c
+    → Comes (status_of g f numbers) h k r → Comes (status_by g c) h k r
+named_status g c f numbers h k r other named same ran =
+    by_status g c h k r other
+    (subst (λ (ns : List ℕ). Comes (status_of g (function_of c) ns) h k r) same
+    (subst (λ (f : Function). Comes (status_of g f numbers) h k r) named ran))
 
 -- ---- what is left
 

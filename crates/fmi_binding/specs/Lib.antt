@@ -2,5 +2,6 @@
 pub mod Faults
 pub mod States
 pub mod Coming
+pub mod Arguments
 pub mod Ecus
 pub mod Laws

@@ -1,6 +1,7 @@
 //! A module bound as a unit: whether it exports what a unit has, and its calls.
 #![tactic(auto)]
 
+mod arguments;
 mod asking;
 mod bound;
 mod bound_unit;

@@ -4,13 +4,16 @@ ghost use Rattle.fmi_states.specs.declared.call.Call.TheVariants.{Free};
 ghost use Rattle.fmi_states.specs.declared.phase.Phase.{Phase};
 ghost use Rattle.wasm_types.specs.Back.{nested_module};
 ghost use Rattle.code_specs.specs.Stores.{Store};
+ghost use Rattle.code_laws.specs.Answers.{Fit};
 ghost use Rattle.wasm_machine.specs.Instances.{Stands, Leaves};
-ghost use Rattle.binding_specs.specs.Exports.{binding_fault};
+ghost use Rattle.binding_specs.specs.Exports.{type_of, binding_fault};
 ghost use Rattle.binding_specs.specs.Pieces.{writes};
-ghost use Rattle.binding_specs.specs.Exchanges.{prepares, status_by};
+ghost use Rattle.binding_specs.specs.Exchanges.{prepares, status_of, status_by};
 ghost use Rattle.binding_laws.specs.Words.{is_instantiation};
 ghost use Rattle.fmi_binding.specs.Coming.{Comes, held, guest_with, HasLength};
+ghost use Rattle.fmi_binding.specs.Arguments.{numbers_of};
 
+use crate::arguments::{Arguments, arguments_of, function_of};
 use crate::bound_unit::BoundUnit;
 use crate::guests::Guests;
 use crate::reading::BYTES;
@@ -86,79 +89,44 @@ pub(crate) fn status_by(
 {
     match call {
         Call::Free => free(alloc, guests, instance, bound),
-        Call::SetClock(reference) => {
-            let arguments = [u64::from(*reference), 1];
-            call_status(
-                alloc,
-                guests,
-                instance,
-                bound,
-                Function::SetClock,
-                &arguments,
-            )
-        }
-        Call::SetBinary(reference, bytes) => {
-            let arguments = [u64::from(*reference), bytes.as_slice().len() as u64];
-            call_status(
-                alloc,
-                guests,
-                instance,
-                bound,
-                Function::SetBinary,
-                &arguments,
-            )
-        }
-        Call::GetClock(reference) => {
-            let arguments = [u64::from(*reference)];
-            call_status(
-                alloc,
-                guests,
-                instance,
-                bound,
-                Function::GetClock,
-                &arguments,
-            )
-        }
-        Call::GetBinary(reference) => {
-            let arguments = [u64::from(*reference)];
-            call_status(
-                alloc,
-                guests,
-                instance,
-                bound,
-                Function::GetBinary,
-                &arguments,
-            )
-        }
-        Call::GetInterval(reference) => {
-            let arguments = [u64::from(*reference)];
-            call_status(
-                alloc,
-                guests,
-                instance,
-                bound,
-                Function::GetInterval,
-                &arguments,
-            )
-        }
-        Call::DoStep { from, size } => {
-            let arguments = [*from, *size];
-            call_status(alloc, guests, instance, bound, Function::DoStep, &arguments)
-        }
-        Call::Instantiate => call_status(
+        _ => call_with(
             alloc,
             guests,
             instance,
             bound,
-            Function::Instantiate,
-            &[],
+            function_of(call),
+            arguments_of(call),
         ),
-        Call::EnterInit => call_status(alloc, guests, instance, bound, Function::EnterInit, &[]),
-        Call::ExitInit => call_status(alloc, guests, instance, bound, Function::ExitInit, &[]),
-        Call::EnterEvent => call_status(alloc, guests, instance, bound, Function::EnterEvent, &[]),
-        Call::EnterStep => call_status(alloc, guests, instance, bound, Function::EnterStep, &[]),
-        Call::Update => call_status(alloc, guests, instance, bound, Function::Update, &[]),
-        Call::Terminate => call_status(alloc, guests, instance, bound, Function::Terminate, &[]),
+    }
+}
+
+/// Runs a function of a unit with these arguments, and gives the status that it returns.
+fn call_with(
+    alloc: Global,
+    guests: &mut Guests,
+    instance: &mut Instance,
+    bound: &BoundUnit,
+    function: Function,
+    arguments: Arguments,
+) -> Result<Result<FmiStatus, Broken>, AllocError>
+    requires stands { Stands bound.now.code guests.old.pool instance.old }
+    requires bound { binding_fault (nested_module bound.now.code) ≡ None }
+    requires fit { Fit (type_of function).params (numbers_of arguments) }
+    ensures comes { IfOk result (λ r. (phase : Phase) (s : Store) (area : ℕ) →
+        Comes (status_of (guest_with bound.now phase area s) function (numbers_of arguments))
+        (held guests.old.pool instance.old area) (held guests.new.pool instance.new area) r) }
+    ensures leaves { Leaves bound.now.code guests.old.pool guests.new.pool instance.old instance.new }
+{
+    match arguments {
+        Arguments::Nothing => call_status(alloc, guests, instance, bound, function, &[]),
+        Arguments::One(number) => {
+            let numbers = [number];
+            call_status(alloc, guests, instance, bound, function, &numbers)
+        }
+        Arguments::Two(first, second) => {
+            let numbers = [first, second];
+            call_status(alloc, guests, instance, bound, function, &numbers)
+        }
     }
 }
 
