@@ -83,7 +83,8 @@ class Line:
 
 def shown(text):
     """The beginning of a text, with what can't be seen in it as its code."""
-    return "".join(sign if sign.isprintable() else f"\\x{ord(sign):02x}" for sign in text[:100]) + ("" if len(text) <= 100 else " ..")
+    seen = "".join(sign if sign.isprintable() else f"\\x{ord(sign):02x}" for sign in text[:100])
+    return seen if len(text) <= 100 else seen + " .."
 
 
 def line_of(number, text):
@@ -99,7 +100,7 @@ def line_of(number, text):
 
 
 def lines_in(file, name, whole=False):
-    """The lines of an open log, one after another. A log that has no line `end` is told of, or isn't one if it has to be whole."""
+    """The lines of an open log, one after another. One without the line `end` is told of, or isn't taken if it has to be whole."""
     last = None
     for number, text in enumerate(file, 1):
         if not text.endswith("\n"):
