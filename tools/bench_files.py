@@ -6,14 +6,23 @@ Standard library only; a network needs Python 3.11, which reads TOML.
 import dataclasses
 import fractions
 import pathlib
+import re
 import sys
 
-# Words of a log's lines, each with how many words stand behind the node at least.
-WORDS = {
-    "req": 1, "full": 1, "drop": 1, "keep": 0, "discard": 0, "wake": 0, "sleep": 0, "told": 1, "start": 1, "lost": 2,
-    "done": 3, "fail": 3, "hurt": 1, "state": 1, "back": 0, "rate": 1, "fdrate": 1, "status": 1, "ferr": 1, "bad": 1,
-    "down": 1, "over": 0,
+BYTE = "[0-9a-f]{2}"
+FD_BYTES = f"(?:(?:{BYTE}){{0,8}}|" + "|".join(f"(?:{BYTE}){{{count}}}" for count in (12, 16, 20, 24, 32, 48, 64)) + ")"
+FRAME = f"(?:[0-7][0-9a-f]{{2}}|[01][0-9a-f]{{7}})#(?:R|#[0-3]{FD_BYTES}|(?:{BYTE}){{0,8}})"
+STATE, BYTES, NODE = "(?:active|passive|off)", f"(?:-|(?:{BYTE})+)", "[0-9]{1,2}"
+# What stands behind the node, by the word of a line: the table in docs/FORMATS.md.
+BEHIND = {
+    "req": FRAME, "full": FRAME, "drop": FRAME, "keep": "", "discard": "", "wake": "", "sleep": "",
+    "told": f"(?:wake|lost [01][0-9a-f]{{7}}|format {BYTES})", "start": FRAME, "lost": f"{FRAME} (?:keep|gone)",
+    "done": f"{FRAME} to (?:-|{NODE}(?:,{NODE})*)", "fail": f"{FRAME} [1-5] {NODE}", "hurt": "[1-5]", "state": STATE,
+    "back": "", "rate": "[0-9]{1,10}", "fdrate": "[0-9]{1,10}", "status": STATE, "ferr": BYTES, "bad": BYTES,
+    "down": "[A-Z][A-Za-z]+[0-9]?", "over": "",
 }
+LINES = {word: re.compile(f"[0-9]{{1,20}} {'-' if word in ('down', 'over') else '[0-3]'} {word} {NODE}"
+                          + (f" {behind}" if behind else "")) for word, behind in BEHIND.items()}
 KINDS = {1: "bit error", 2: "stuff error", 3: "form error", 4: "CRC error", 5: "no acknowledgement"}
 
 
@@ -65,33 +74,70 @@ class Line:
         """The nodes that a `done` line names."""
         return [] if self.rest[2] == "-" else [int(node) for node in self.rest[2].split(",")]
 
+    def nodes(self):
+        """All nodes that the line names."""
+        named = [] if self.node is None else [self.node]
+        named += self.receivers() if self.word == "done" else []
+        return named + ([int(self.rest[2])] if self.word == "fail" else [])
+
+
+def shown(text):
+    """The beginning of a text, with what can't be seen in it as its code."""
+    seen = "".join(sign if sign.isprintable() else f"\\x{ord(sign):02x}" for sign in text[:100])
+    return seen if len(text) <= 100 else seen + " .."
+
 
 def line_of(number, text):
     """A line of a log, or NotALog."""
     words = text.split(" ")
-    if words[0] == "end" and len(words) == 3 and all(word.isdecimal() for word in words[1:]):
+    if re.fullmatch("end [0-9]{1,2} [0-9]{1,20}", text):
         return Line(number, text, None, None, "end", None, tuple(words[1:]))
-    if len(words) < 4 or words[2] not in WORDS or len(words) < 4 + WORDS[words[2]]:
-        raise NotALog(f"line {number} isn't a line of a log: {text}")
-    moment, bus, node = words[0], words[1], words[3]
-    if not (moment.isdecimal() and node.isdecimal() and (bus == "-" or bus.isdecimal())):
-        raise NotALog(f"line {number} isn't a line of a log: {text}")
-    return Line(number, text, int(moment), None if bus == "-" else int(bus), words[2], int(node), tuple(words[4:]))
+    if len(words) < 4 or words[2] not in LINES or not LINES[words[2]].fullmatch(text):
+        why = " (lines end with CR LF, as from Windows)" if text.endswith("\r") else ""
+        raise NotALog(f"line {number} isn't a line of a log{why}: {shown(text)}")
+    bus = None if words[1] == "-" else int(words[1])
+    return Line(number, text, int(words[0]), bus, words[2], int(words[3]), tuple(words[4:]))
 
 
-def lines_in(file):
-    """The lines of an open log, one after another."""
+def lines_in(file, name, whole=False):
+    """The lines of an open log, one after another. One without the line `end` is told of, or isn't taken if it has to be whole."""
+    last = None
     for number, text in enumerate(file, 1):
-        yield line_of(number, text.rstrip("\n"))
+        if not text.endswith("\n"):
+            raise NotALog(f"line {number} is cut off, as no line feed ends it: {shown(text)}")
+        line = line_of(number, text[:-1])
+        if last and (last.word == "end" or line.moment is not None and line.moment < last.moment):
+            raise NotALog(f"line {number} can't follow the one before it: {shown(line.text)}")
+        yield line
+        last = line
+    if last is None or last.word != "end":
+        why = f"{name} isn't whole: its last line isn't `end STATUS EVENTS`"
+        if whole:
+            raise NotALog(why)
+        sys.stdout.flush()
+        print(f"note: {why}", file=sys.stderr)
 
 
-def lines_of(path):
+def lines_of(path, whole=False):
     """The lines of a log by its path; `-` is standard input."""
     if str(path) == "-":
-        yield from lines_in(sys.stdin)
+        sys.stdin.reconfigure(encoding="ascii", errors="backslashreplace", newline="\n")
+        yield from lines_in(sys.stdin, "standard input", whole)
         return
-    with open(path, encoding="ascii", errors="replace", newline="\n") as file:
-        yield from lines_in(file)
+    with open(path, encoding="ascii", errors="backslashreplace", newline="\n") as file:
+        yield from lines_in(file, path, whole)
+
+
+def log_of(path, setup=None, whole=False):
+    """All lines of a log; with a setup they name what stands there."""
+    lines = list(lines_of(path, whole))
+    members = {(bus, number) for number, node in enumerate(setup.nodes) for bus in node.buses() + [None]} if setup else ()
+    for line in lines if setup else ():
+        strange = [node for node in line.nodes() if (line.bus, node) not in members]
+        if strange:
+            where = "" if line.bus is None else f" on bus {line.bus}"
+            raise NotALog(f"{path} is the log of something else: line {line.number} has node {strange[0]}{where}: {line.text}")
+    return lines
 
 
 @dataclasses.dataclass
@@ -178,28 +224,48 @@ class Setup:
     def ticks(self, text):
         """A time in ticks: a whole number of ticks, or a number with s, ms or us behind it."""
         for unit, parts in (("ms", 1000), ("us", 10 ** 6), ("s", 1)):
-            if text.endswith(unit):
+            if re.fullmatch(rf"[0-9]+(\.[0-9]+)?{unit}", text):
                 return round(fractions.Fraction(text[:-len(unit)]) * self.resolution / parts)
-        return int(text)
+        return whole_ticks(text)
+
+
+def whole_ticks(text):
+    if not re.fullmatch("[0-9]+", text):
+        raise ValueError(f"no time: {text}; a time is a number of ticks, or with a NET or PLAY one as 5ms, 300us, 1.5s")
+    return int(text)
 
 
 def play_setup(path):
     with open(path, encoding="ascii", errors="replace", newline="\n") as file:
         words = file.readline().rstrip("\n").split(" ")
     if len(words) != 6 or words[0] != "play" or not all(word.isdecimal() for word in words[1:]) or words[1] == "0":
-        raise ValueError(f"{path} isn't a play: its first line is no header")
+        raise ValueError(f"{path} is neither a network's folder nor a play: its first line is no header of a play")
     resolution, rate, fd_rate, nodes, stop = (int(word) for word in words[1:])
+    if rate < 1 or resolution % rate or fd_rate and resolution % fd_rate or not 1 <= nodes <= 32:
+        raise ValueError(f"{path} isn't taken by the bench: tools/explain {path}")
     return Setup(resolution, stop, [Bus("bus 0", rate, fd_rate)], [Node(f"node {n}", {"CAN": 0}) for n in range(nodes)],
                  is_play=True)
 
 
 def network_setup(folder):
     import tomllib
-    table = tomllib.loads((folder / "net.toml").read_text(encoding="utf-8"))
-    buses = [Bus(bus["name"], bus["rate"], bus.get("fd_rate", 0)) for bus in table["bus"]]
-    places = {bus.name: place for place, bus in enumerate(buses)}
-    nodes = [Node(n["name"], {t: places[b] for t, b in n["bus"].items()}) for n in table["node"]]
-    return Setup(table["resolution"], table["stop"], buses, nodes)
+    refused = ValueError(f"{folder / 'net.toml'} isn't taken by the bench: tools/explain {folder}")
+    try:
+        table = tomllib.loads((folder / "net.toml").read_text(encoding="utf-8"))
+        buses = [Bus(bus["name"], bus["rate"], bus.get("fd_rate", 0)) for bus in table["bus"]]
+        places = {bus.name: place for place, bus in enumerate(buses)}
+        nodes = [Node(n["name"], {t: places[b] for t, b in n["bus"].items()}) for n in table["node"]]
+        setup = Setup(table["resolution"], table["stop"], buses, nodes)
+        numbers = [setup.resolution, setup.stop] + [number for bus in buses for number in (bus.rate, bus.fd_rate)]
+        if any(type(number) is not int or number < 0 for number in numbers) or not all(bus.rate for bus in buses):
+            raise refused
+        if any(setup.resolution % rate for bus in buses for rate in (bus.rate, bus.fd_rate) if rate) or not setup.resolution:
+            raise refused
+        if not buses or not nodes or not all(isinstance(one.name, str) for one in buses + nodes):
+            raise refused
+        return setup
+    except (UnicodeDecodeError, tomllib.TOMLDecodeError, RecursionError, KeyError, TypeError, AttributeError):
+        raise refused from None
 
 
 def setup_of(path):
@@ -219,10 +285,12 @@ def run(name, main):
     except BrokenPipeError:
         sys.stderr.close()
         sys.exit(1)
-    except (OSError, ValueError, NotALog) as error:
+    except KeyboardInterrupt:
+        sys.exit(130)
+    except OSError as error:
+        sys.exit(fail(name, f"{error.filename}: {error.strerror}" if error.filename else error))
+    except (ValueError, NotALog) as error:
         sys.exit(fail(name, error))
-    except KeyError as error:
-        sys.exit(fail(name, f"net.toml has no key {error}"))
 
 
 def fail(name, why):

@@ -132,8 +132,8 @@ def module_words(why, place, at):
     """In words why a module is refused; a name may be a fault and a rule, and then the position decides nothing."""
     if why in ("Missing", "Signature"):
         name, kind = EXPORTS[place]
-        said = "exports nothing of the name" if why == "Missing" else "exports as something else"
-        return f"row {place} of what a unit exports: it {said} `{name}`; wanted is {kind}"
+        said = f"it exports nothing of the name `{name}`" if why == "Missing" else f"its export `{name}` is of another type"
+        return f"row {place} of what a unit exports: {said}; wanted is {kind}"
     if why == "Segment":
         return f"{'data' if at else 'element'} segment {place} leads out of the {'memory' if at else 'table'}"
     if why == "Args":
