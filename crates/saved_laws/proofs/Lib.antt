@@ -1,0 +1,4 @@
+pub mod History
+pub mod Suited
+pub mod Whole
+pub mod Opened
