@@ -30,13 +30,15 @@ pub one_line : (text : List ℕ) (one other : Line) → Spells text one → Spel
 one_line text one other first second = same_Some one other (one_answer text (Some one) (Some other) first second)
 
 -- what the reader answers spells the text
-pub found_of : {A E : Type 0} (line_of : A → Line) (text : List ℕ) (result : Result (Option A) E) → IfOk result (λ o. option_map line_of o ≡ line_of_text text)
+pub found_of : {A E : Type 0} (line_of : A → Line) (text : List ℕ) (result : Result (Option A) E)
+    → IfOk result (λ o. option_map line_of o ≡ line_of_text text)
     → IfOk result (λ o. IfSome o (λ line. Spells text (line_of line)))
 found_of line_of text (Ok (Some line)) follows = spells_from_line_of_text text (line_of line) (sym follows)
 found_of line_of text (Ok None) follows = tt
 found_of line_of text (Err e) follows = tt
 
-pub only_of : {A E : Type 0} (line_of : A → Line) (text : List ℕ) (line : Line) (result : Result (Option A) E) → IfOk result (λ o. option_map line_of o ≡ line_of_text text)
+pub only_of : {A E : Type 0} (line_of : A → Line) (text : List ℕ) (line : Line) (result : Result (Option A) E)
+    → IfOk result (λ o. option_map line_of o ≡ line_of_text text)
     → Spells text line → IfOk result (λ o. option_map line_of o ≡ Some line)
 only_of line_of text line (Ok o) follows spells = follows ∙ line_of_text_from_spells text line spells
 only_of line_of text line (Err e) follows spells = tt

@@ -99,7 +99,8 @@ unfolding numbers_in
 numbers_in-text [] rises small = refl
 numbers_in-text (n ∷ ns) rises small =
     let s = and_parts (nat_lt n (2 ^ 32)) (all_below (2 ^ 32) ns) small in
-    let apart = parts_joined 44 (decimal n) (numbers ns) (all_without 44 44 (numbers (n ∷ ns)) (omega arith) (numbers_over 44 (n ∷ ns) (omega arith) small)) in
+    let apart = parts_joined 44 (decimal n) (numbers ns) (all_without 44 44 (numbers (n ∷ ns)) (omega arith)
+    (numbers_over 44 (n ∷ ns) (omega arith) small)) in
     rw (numbers_no_dash n ns (limit_above n (2 ^ 32) s.0)) (ap (rising_from 0) apart ∙ rising-numbers 0 (n ∷ ns) rises small)
 
 -- numbers that rise, and their texts
@@ -144,7 +145,8 @@ pub numbers_in-some : (text : List ℕ) (ns : List ℕ) → numbers_in text ≡ 
 unfolding numbers_in
 numbers_in-some text ns read = by (bytes_eq text (codes "-")) refl read
   where
-    by : (dash : Bool) → bytes_eq text (codes "-") ≡ dash → (if dash then Some [] else rising_from 0 (parts 44 text)) ≡ Some ns → AreReceivers ns text
+    by : (dash : Bool) → bytes_eq text (codes "-") ≡ dash → (if dash then Some [] else rising_from 0 (parts 44 text)) ≡ Some ns
+        → AreReceivers ns text
     by true e read' =
         let none : [] ≡ ns = same_Some [] ns read' in
         let P : List ℕ → Type 0 = λ xs. AreReceivers xs text in
@@ -170,10 +172,12 @@ all_below-All (b ∷ bs) small =
 pub All-all_below : (bs : List ℕ) → All (λ b. b < 256) bs → all_below 256 bs ≡ true
 All-all_below [] small = refl
 All-all_below (b ∷ bs) small =
-    and_from (nat_lt b 256) (all_below 256 bs) (below_limit b 256 (All-head (λ x. x < 256) b bs small)) (All-all_below bs (All-tail (λ x. x < 256) b bs small))
+    and_from (nat_lt b 256) (all_below 256 bs) (below_limit b 256 (All-head (λ x. x < 256) b bs small))
+    (All-all_below bs (All-tail (λ x. x < 256) b bs small))
 
 bytes_no_dash : (b : ℕ) (bs : List ℕ) → bytes_eq (hex_bytes (b ∷ bs)) (codes "-") ≡ false
-bytes_no_dash b bs = other_word (hex_bytes (b ∷ bs)) (codes "-") (λ same. let long : length (hex_bytes (b ∷ bs)) ≡ 1 = ap length same in omega (arith, long))
+bytes_no_dash b bs = other_word (hex_bytes (b ∷ bs)) (codes "-")
+    (λ same. let long : length (hex_bytes (b ∷ bs)) ≡ 1 = ap length same in omega (arith, long))
 
 counted-some : (least : ℕ) (bs h : List ℕ) → counted least bs ≡ Some h → (bs ≡ h) × (is_within least 64 (length bs) ≡ true)
 counted-some least bs h read =
@@ -183,12 +187,15 @@ counted-some least bs h read =
 counted-all : (least : ℕ) (bs : List ℕ) → is_within least 64 (length bs) ≡ true → counted least bs ≡ Some bs
 counted-all least bs fits = rw fits refl
 
-pub bytes_in-text : (least : ℕ) (bs : List ℕ) → is_within least 64 (length bs) ≡ true → all_below 256 bs ≡ true → bytes_in least (bytes_text bs) ≡ Some bs
+pub bytes_in-text : (least : ℕ) (bs : List ℕ) → is_within least 64 (length bs) ≡ true → all_below 256 bs ≡ true
+    → bytes_in least (bytes_text bs) ≡ Some bs
 unfolding bytes_in
 bytes_in-text least [] fits small = counted-all least [] fits
 bytes_in-text least (b ∷ bs) fits small =
-    let inside : is_within 1 64 (length (b ∷ bs)) ≡ true = is_within-from 1 64 (length (b ∷ bs)) (omega arith) ((is_within-parts least 64 (length (b ∷ bs)) fits).1) in
-    rw (bytes_no_dash b bs) (ap (option_and_then (counted 1)) (bytes_of-hex_bytes (b ∷ bs) (all_below-All (b ∷ bs) small)) ∙ counted-all 1 (b ∷ bs) inside)
+    let inside : is_within 1 64 (length (b ∷ bs)) ≡ true = is_within-from 1 64 (length (b ∷ bs)) (omega arith)
+    ((is_within-parts least 64 (length (b ∷ bs)) fits).1) in
+    rw (bytes_no_dash b bs) (ap (option_and_then (counted 1)) (bytes_of-hex_bytes (b ∷ bs) (all_below-All (b ∷ bs) small))
+    ∙ counted-all 1 (b ∷ bs) inside)
 
 bytes_text-some : (bs : List ℕ) → 1 ≤ length bs → bytes_text bs ≡ hex_bytes bs
 bytes_text-some [] some = absurd (omega arith)
@@ -204,7 +211,8 @@ pub bytes_in-some : (least : ℕ) (text bs : List ℕ) → least ≤ 1 → bytes
 unfolding bytes_in
 bytes_in-some least text bs low read = by (bytes_eq text (codes "-")) refl read
   where
-    by : (dash : Bool) → bytes_eq text (codes "-") ≡ dash → (if dash then counted least [] else option_and_then (counted 1) (bytes_of text)) ≡ Some bs → AreBytes least bs text
+    by : (dash : Bool) → bytes_eq text (codes "-") ≡ dash → (if dash then counted least [] else option_and_then (counted 1) (bytes_of text))
+        ≡ Some bs → AreBytes least bs text
     by true e read' =
         let none = counted-some least [] bs read' in
         let P : List ℕ → Type 0 = λ xs. AreBytes least xs text in
@@ -268,10 +276,12 @@ four-some (a ∷ b ∷ c ∷ d ∷ []) id read small =
     let s2 = All-tail P b (c ∷ d ∷ []) s1 in
     let s3 = All-tail P c (d ∷ []) s2 in
     let value : 2 ^ 24 * a + 2 ^ 16 * b + 2 ^ 8 * c + d ≡ id = same_Some (2 ^ 24 * a + 2 ^ 16 * b + 2 ^ 8 * c + d) id read in
-    let back = four_back a b c d id (All-head P a (b ∷ c ∷ d ∷ []) small) (All-head P b (c ∷ d ∷ []) s1) (All-head P c (d ∷ []) s2) (All-head P d [] s3) value in (
+    let back = four_back a b c d id (All-head P a (b ∷ c ∷ d ∷ []) small) (All-head P b (c ∷ d ∷ []) s1) (All-head P c (d ∷ []) s2)
+    (All-head P d [] s3) value in (
       back.4,
       hex_of_bytes id ∙ ap (λ x. hex_bytes (x ∷ id / 2 ^ 16 % 256 ∷ id / 2 ^ 8 % 256 ∷ id % 256 ∷ [])) back.0
-          ∙ ap (λ x. hex_bytes (a ∷ x ∷ id / 2 ^ 8 % 256 ∷ id % 256 ∷ [])) back.1 ∙ ap (λ x. hex_bytes (a ∷ b ∷ x ∷ id % 256 ∷ [])) back.2 ∙ ap (λ x. hex_bytes (a ∷ b ∷ c ∷ x ∷ [])) back.3,
+          ∙ ap (λ x. hex_bytes (a ∷ x ∷ id / 2 ^ 8 % 256 ∷ id % 256 ∷ [])) back.1 ∙ ap (λ x. hex_bytes (a ∷ b ∷ x ∷ id % 256 ∷ [])) back.2
+          ∙ ap (λ x. hex_bytes (a ∷ b ∷ c ∷ x ∷ [])) back.3,
     )
 four-some (a ∷ b ∷ c ∷ d ∷ e ∷ bs) id read small = cc read
 
@@ -297,4 +307,8 @@ pub record IsFrame (f : Frame) (text : List ℕ) : Type 0 where
 pub frame_of-some : (text : List ℕ) (f : Frame) → frame_of text ≡ Some f → IsFrame f text
 frame_of-some text f read =
     let spells = spells_from_frame_of text f read in
-    record { fits = and_from (is_well_formed f) (all_below 256 f.bytes) spells.well_formed (All-all_below f.bytes spells.bytes); written = spells.spelled }
+    record {
+      fits = and_from (is_well_formed f) (all_below 256 f.bytes) spells.well_formed (All-all_below f.bytes spells.bytes);
+      written
+          = spells.spelled;
+    }

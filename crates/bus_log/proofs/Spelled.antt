@@ -42,7 +42,8 @@ one_said make read word good (w ∷ []) told found =
     subst P a.2 (good w a.0 a.1)
 one_said make read word good (w ∷ x ∷ ws) told found = cc found
 
-bare_said : (made : Told) (word : List ℕ) → IsSaid made word [] → (rest : List (List ℕ)) (told : Told) → bare made rest ≡ Some told → IsSaid told word rest
+bare_said : (made : Told) (word : List ℕ) → IsSaid made word [] → (rest : List (List ℕ)) (told : Told) → bare made rest ≡ Some told
+    → IsSaid told word rest
 bare_said made word good [] told found =
     let same : made ≡ told = same_Some made told found in
     let P : Told → Type 0 = λ t. IsSaid t word [] in
@@ -62,16 +63,35 @@ one_word : (v w : List ℕ) → v ≡ w → v ∷ [] ≡ w ∷ []
 one_word v w same = ap (λ x. x ∷ []) same
 
 req_said : (w : List ℕ) (f : Frame) → frame_of w ≡ Some f → IsSaid (log.Req f) (codes "req") (w ∷ [])
-req_said w f read = let is = frame_of-some w f read in record { is = refl; fits = is.fits; word_is = refl; rest_is = one_word (frame_text f) w is.written }
+req_said w f read = let is = frame_of-some w f read in record {
+  is = refl;
+  fits = is.fits;
+  word_is = refl;
+  rest_is = one_word (frame_text f)
+      w is.written;
+}
 
 full_said : (w : List ℕ) (f : Frame) → frame_of w ≡ Some f → IsSaid (log.Full f) (codes "full") (w ∷ [])
-full_said w f read = let is = frame_of-some w f read in record { is = refl; fits = is.fits; word_is = refl; rest_is = one_word (frame_text f) w is.written }
+full_said w f read = let is = frame_of-some w f read in record {
+  is = refl;
+  fits = is.fits;
+  word_is = refl;
+  rest_is = one_word
+      (frame_text f) w is.written;
+}
 
 drop_said : (w : List ℕ) (f : Frame) → frame_of w ≡ Some f → IsSaid (log.Drop f) (codes "drop") (w ∷ [])
-drop_said w f read = let is = frame_of-some w f read in record { is = refl; fits = is.fits; word_is = refl; rest_is = one_word (frame_text f) w is.written }
+drop_said w f read = let is = frame_of-some w f read in record {
+  is = refl;
+  fits = is.fits;
+  word_is = refl;
+  rest_is = one_word
+      (frame_text f) w is.written;
+}
 
 start_said : (w : List ℕ) (f : Frame) → frame_of w ≡ Some f → IsSaid (log.Start f) (codes "start") (w ∷ [])
-start_said w f read = let is = frame_of-some w f read in record { is = refl; fits = is.fits; word_is = refl; rest_is = one_word (frame_text f) w is.written }
+start_said w f read = let is = frame_of-some w f read in record
+    { is = refl; fits = is.fits; word_is = refl; rest_is = one_word (frame_text f) w is.written }
 
 rate_said : (w : List ℕ) (v : ℕ) → number_in 0 word32 w ≡ Some v → IsSaid (log.Rate v) (codes "rate") (w ∷ [])
 rate_said w v read =
@@ -84,10 +104,22 @@ fd_rate_said w v read =
     record { is = refl; fits = word_number v w is; word_is = refl; rest_is = one_word (decimal v) w is.written }
 
 status_said : (w : List ℕ) (l : Declared) → level_named w ≡ Some l → IsSaid (log.Status l) (codes "status") (w ∷ [])
-status_said w l read = record { is = refl; fits = refl; word_is = refl; rest_is = one_word (level_text l) w (named-some level_text levels w l read) }
+status_said w l read = record {
+  is = refl;
+  fits = refl;
+  word_is = refl;
+  rest_is = one_word (level_text l) w
+      (named-some level_text levels w l read);
+}
 
 state_said : (w : List ℕ) (l : Declared) → level_named w ≡ Some l → IsSaid (log.State l) (codes "state") (w ∷ [])
-state_said w l read = record { is = refl; fits = refl; word_is = refl; rest_is = one_word (level_text l) w (named-some level_text levels w l read) }
+state_said w l read = record {
+  is = refl;
+  fits = refl;
+  word_is = refl;
+  rest_is = one_word (level_text l) w
+      (named-some level_text levels w l read);
+}
 
 format_said : (w h : List ℕ) → bytes_in 0 w ≡ Some h → IsSaid (log.FormatError h) (codes "ferr") (w ∷ [])
 format_said w h read =
@@ -110,22 +142,37 @@ two_words : (v w : List ℕ) (x y : List ℕ) → v ≡ w → x ≡ y → v ∷ 
 two_words v w x y first second = ap (λ a. a ∷ x ∷ []) first ∙ ap (λ a. w ∷ a ∷ []) second
 
 three_words : (u v w x y z : List ℕ) → u ≡ x → v ≡ y → w ≡ z → u ∷ v ∷ w ∷ [] ≡ x ∷ y ∷ z ∷ []
-three_words u v w x y z first second third = ap (λ a. a ∷ v ∷ w ∷ []) first ∙ ap (λ a. x ∷ a ∷ w ∷ []) second ∙ ap (λ a. x ∷ y ∷ a ∷ []) third
+three_words u v w x y z first second third = ap (λ a. a ∷ v ∷ w ∷ []) first ∙ ap (λ a. x ∷ a ∷ w ∷ []) second
+    ∙ ap (λ a. x ∷ y ∷ a ∷ []) third
 
-kept_said : (f w : List ℕ) (told : Told) → bytes_eq w (codes "keep") ≡ true → option_map log.LostKept (frame_of f) ≡ Some told → IsSaid told (codes "lost") (f ∷ w ∷ [])
+kept_said : (f w : List ℕ) (told : Told) → bytes_eq w (codes "keep") ≡ true → option_map log.LostKept (frame_of f) ≡ Some told
+    → IsSaid told (codes "lost") (f ∷ w ∷ [])
 kept_said f w told same found =
     let a = map_some (frame_of f) log.LostKept told found in
     let is = frame_of-some f a.0 a.1 in
     let P : Told → Type 0 = λ t. IsSaid t (codes "lost") (f ∷ w ∷ []) in
-    let said' : P (log.LostKept a.0) = record { is = refl; fits = is.fits; word_is = refl; rest_is = two_words (frame_text a.0) f (codes "keep") w is.written (sym (word_is w (codes "keep") same)) } in
+    let said' : P (log.LostKept a.0) = record {
+      is = refl;
+      fits = is.fits;
+      word_is = refl;
+      rest_is = two_words (frame_text a.0) f
+          (codes "keep") w is.written (sym (word_is w (codes "keep") same));
+    } in
     subst P a.2 said'
 
-gone_said : (f w : List ℕ) (told : Told) → bytes_eq w (codes "gone") ≡ true → option_map log.LostGone (frame_of f) ≡ Some told → IsSaid told (codes "lost") (f ∷ w ∷ [])
+gone_said : (f w : List ℕ) (told : Told) → bytes_eq w (codes "gone") ≡ true → option_map log.LostGone (frame_of f) ≡ Some told
+    → IsSaid told (codes "lost") (f ∷ w ∷ [])
 gone_said f w told same found =
     let a = map_some (frame_of f) log.LostGone told found in
     let is = frame_of-some f a.0 a.1 in
     let P : Told → Type 0 = λ t. IsSaid t (codes "lost") (f ∷ w ∷ []) in
-    let said' : P (log.LostGone a.0) = record { is = refl; fits = is.fits; word_is = refl; rest_is = two_words (frame_text a.0) f (codes "gone") w is.written (sym (word_is w (codes "gone") same)) } in
+    let said' : P (log.LostGone a.0) = record {
+      is = refl;
+      fits = is.fits;
+      word_is = refl;
+      rest_is = two_words (frame_text a.0) f
+          (codes "gone") w is.written (sym (word_is w (codes "gone") same));
+    } in
     subst P a.2 said'
 
 lost_said : (rest : List (List ℕ)) (told : Told) → lost_in rest ≡ Some told → IsSaid told (codes "lost") rest
@@ -146,10 +193,17 @@ wake_said w told found =
     let test = if_some (bytes_eq w (codes "wake")) (Some log.ToldWake) told found in
     let same : log.ToldWake ≡ told = same_Some log.ToldWake told test.1 in
     let P : Told → Type 0 = λ t. IsSaid t (codes "told") (w ∷ []) in
-    let said' : P log.ToldWake = record { is = refl; fits = refl; word_is = refl; rest_is = one_word (codes "wake") w (sym (word_is w (codes "wake") test.0)) } in
+    let said' : P log.ToldWake = record {
+      is = refl;
+      fits = refl;
+      word_is = refl;
+      rest_is = one_word (codes "wake") w
+          (sym (word_is w (codes "wake") test.0));
+    } in
     subst P same said'
 
-told_lost_said : (w text : List ℕ) (told : Told) → bytes_eq w (codes "lost") ≡ true → option_map log.ToldLost (id_in text) ≡ Some told → IsSaid told (codes "told") (w ∷ text ∷ [])
+told_lost_said : (w text : List ℕ) (told : Told) → bytes_eq w (codes "lost") ≡ true → option_map log.ToldLost (id_in text) ≡ Some told
+    → IsSaid told (codes "told") (w ∷ text ∷ [])
 told_lost_said w text told same found =
     let a = map_some (id_in text) log.ToldLost told found in
     let is = id_in-some text a.0 a.1 in
@@ -162,7 +216,8 @@ told_lost_said w text told same found =
     } in
     subst P a.2 said'
 
-told_format_said : (w text : List ℕ) (told : Told) → bytes_eq w (codes "format") ≡ true → option_map log.ToldFormat (bytes_in 1 text) ≡ Some told → IsSaid told (codes "told") (w ∷ text ∷ [])
+told_format_said : (w text : List ℕ) (told : Told) → bytes_eq w (codes "format") ≡ true
+    → option_map log.ToldFormat (bytes_in 1 text) ≡ Some told → IsSaid told (codes "told") (w ∷ text ∷ [])
 told_format_said w text told same found =
     let a = map_some (bytes_in 1 text) log.ToldFormat told found in
     let are = bytes_in-some 1 text a.0 (omega arith) a.1 in
@@ -181,7 +236,8 @@ notice_said (w ∷ []) told found = wake_said w told found
 notice_said (w ∷ text ∷ []) told found = by (bytes_eq w (codes "lost")) (bytes_eq w (codes "format")) refl refl found
   where
     by : (lost format : Bool) → bytes_eq w (codes "lost") ≡ lost → bytes_eq w (codes "format") ≡ format
-        → (if lost then option_map log.ToldLost (id_in text) else if format then option_map log.ToldFormat (bytes_in 1 text) else None) ≡ Some told
+        → (if lost then option_map log.ToldLost (id_in text) else if format then option_map log.ToldFormat (bytes_in 1 text) else None)
+        ≡ Some told
         → IsSaid told (codes "told") (w ∷ text ∷ [])
     by true format e g found' = told_lost_said w text told e found'
     by false true e g found' = told_format_said w text told g found'
@@ -193,7 +249,8 @@ done_said [] told found = cc found
 done_said (f ∷ []) told found = cc found
 done_said (f ∷ w ∷ []) told found = cc found
 done_said (f ∷ w ∷ ns ∷ []) told found =
-    let test = if_some (bytes_eq w (codes "to")) (option_and_then (λ frame. option_map (log.Done frame) (numbers_in ns)) (frame_of f)) told found in
+    let test = if_some (bytes_eq w (codes "to")) (option_and_then (λ frame. option_map (log.Done frame) (numbers_in ns)) (frame_of f)) told
+    found in
     let frame = bind_some (frame_of f) (λ frame. option_map (log.Done frame) (numbers_in ns)) told test.1 in
     let receivers = map_some (numbers_in ns) (log.Done frame.0) told frame.2 in
     let is = frame_of-some f frame.0 frame.1 in
@@ -203,7 +260,8 @@ done_said (f ∷ w ∷ ns ∷ []) told found =
       is = are.rises;
       fits = and_from (frame_fits frame.0) (all_below (2 ^ 32) receivers.0) is.fits are.small;
       word_is = refl;
-      rest_is = three_words (frame_text frame.0) (codes "to") (numbers_text receivers.0) f w ns is.written (sym (word_is w (codes "to") test.0)) are.written;
+      rest_is = three_words (frame_text frame.0) (codes "to") (numbers_text receivers.0) f w ns is.written
+          (sym (word_is w (codes "to") test.0)) are.written;
     } in
     subst P receivers.2 said'
 done_said (f ∷ w ∷ ns ∷ x ∷ ws) told found = cc found
@@ -235,11 +293,16 @@ told_by-some verb.Req rest told found = one_said log.Req frame_of (codes "req") 
 told_by-some verb.Full rest told found = one_said log.Full frame_of (codes "full") full_said rest told found
 told_by-some verb.Drop rest told found = one_said log.Drop frame_of (codes "drop") drop_said rest told found
 told_by-some verb.Start rest told found = one_said log.Start frame_of (codes "start") start_said rest told found
-told_by-some verb.Keep rest told found = bare_said log.Keep (codes "keep") record { is = refl; fits = refl; word_is = refl; rest_is = refl } rest told found
-told_by-some verb.Discard rest told found = bare_said log.Discard (codes "discard") record { is = refl; fits = refl; word_is = refl; rest_is = refl } rest told found
-told_by-some verb.Wake rest told found = bare_said log.Wake (codes "wake") record { is = refl; fits = refl; word_is = refl; rest_is = refl } rest told found
-told_by-some verb.Sleep rest told found = bare_said log.Sleep (codes "sleep") record { is = refl; fits = refl; word_is = refl; rest_is = refl } rest told found
-told_by-some verb.Back rest told found = bare_said log.Back (codes "back") record { is = refl; fits = refl; word_is = refl; rest_is = refl } rest told found
+told_by-some verb.Keep rest told found = bare_said log.Keep (codes "keep") record { is = refl; fits = refl; word_is = refl; rest_is = refl }
+    rest told found
+told_by-some verb.Discard rest told found = bare_said log.Discard (codes "discard") record
+    { is = refl; fits = refl; word_is = refl; rest_is = refl } rest told found
+told_by-some verb.Wake rest told found = bare_said log.Wake (codes "wake") record { is = refl; fits = refl; word_is = refl; rest_is = refl }
+    rest told found
+told_by-some verb.Sleep rest told found = bare_said log.Sleep (codes "sleep") record
+    { is = refl; fits = refl; word_is = refl; rest_is = refl } rest told found
+told_by-some verb.Back rest told found = bare_said log.Back (codes "back") record { is = refl; fits = refl; word_is = refl; rest_is = refl }
+    rest told found
 told_by-some verb.Rate rest told found = one_said log.Rate (number_in 0 word32) (codes "rate") rate_said rest told found
 told_by-some verb.FdRate rest told found = one_said log.FdRate (number_in 0 word32) (codes "fdrate") fd_rate_said rest told found
 told_by-some verb.Status rest told found = one_said log.Status level_named (codes "status") status_said rest told found
@@ -270,7 +333,8 @@ four_words : (moment bus word node a b c d : List ℕ) (rest xs : List (List ℕ
     → moment ∷ bus ∷ word ∷ node ∷ rest ≡ a ∷ b ∷ c ∷ d ∷ xs
 four_words moment bus word node a b c d rest xs e1 e2 e3 e4 e5 = rw (e1, e2, e3, e4, e5) refl
 
-bus_line_laid : (t : ℕ) (moment bus word : List ℕ) (n : ℕ) (node : List ℕ) (rest : List (List ℕ)) (line : Line) → IsNumber 0 word64 t moment → IsNumber 0 word32 n node
+bus_line_laid : (t : ℕ) (moment bus word : List ℕ) (n : ℕ) (node : List ℕ) (rest : List (List ℕ)) (line : Line) → IsNumber 0 word64 t moment
+    → IsNumber 0 word32 n node
     → bus_line_in t bus word n rest ≡ Some line → IsLaid line (moment ∷ bus ∷ word ∷ node ∷ rest)
 bus_line_laid t moment bus word n node rest line tm nm found =
     let b = bind_some (number_in 0 word32 bus) _ line found in
@@ -282,12 +346,16 @@ bus_line_laid t moment bus word n node rest line tm nm found =
     let laid : P (On t b.0 n told.0) = record {
       is = s.is;
       fits = and_from (nat_lt t (2 ^ 64) && nat_lt b.0 (2 ^ 32) && nat_lt n (2 ^ 32)) (told_fits told.0)
-          (and_from (nat_lt t (2 ^ 64) && nat_lt b.0 (2 ^ 32)) (nat_lt n (2 ^ 32)) (and_from (nat_lt t (2 ^ 64)) (nat_lt b.0 (2 ^ 32)) (long_number t moment tm) (word_number b.0 bus bm)) (word_number n node nm)) s.fits;
-      written = four_words (decimal t) (decimal b.0) (said told.0).0 (decimal n) moment bus word node (said told.0).1 rest tm.written bm.written s.word_is nm.written s.rest_is;
+          (and_from (nat_lt t (2 ^ 64) && nat_lt b.0 (2 ^ 32)) (nat_lt n (2 ^ 32))
+          (and_from (nat_lt t (2 ^ 64)) (nat_lt b.0 (2 ^ 32)) (long_number t moment tm) (word_number b.0 bus bm))
+          (word_number n node nm)) s.fits;
+      written = four_words (decimal t) (decimal b.0) (said told.0).0 (decimal n) moment bus word node (said told.0).1 rest tm.written
+          bm.written s.word_is nm.written s.rest_is;
     } in
     subst P same laid
 
-down_laid : (t : ℕ) (moment bus word : List ℕ) (n : ℕ) (node : List ℕ) (rest : List (List ℕ)) (line : Line) → IsNumber 0 word64 t moment → IsNumber 0 word32 n node → codes "-" ≡ bus → codes "down" ≡ word
+down_laid : (t : ℕ) (moment bus word : List ℕ) (n : ℕ) (node : List ℕ) (rest : List (List ℕ)) (line : Line) → IsNumber 0 word64 t moment
+    → IsNumber 0 word32 n node → codes "-" ≡ bus → codes "down" ≡ word
     → option_map (Down t n) (one cause_named rest) ≡ Some line → IsLaid line (moment ∷ bus ∷ word ∷ node ∷ rest)
 down_laid t moment bus word n node [] line tm nm dash down found = cc found
 down_laid t moment bus word n node (w ∷ []) line tm nm dash down found =
@@ -296,13 +364,15 @@ down_laid t moment bus word n node (w ∷ []) line tm nm dash down found =
     let laid : P (Down t n cause.0) = record {
       is = refl;
       fits = and_from (nat_lt t (2 ^ 64)) (nat_lt n (2 ^ 32)) (long_number t moment tm) (word_number n node nm);
-      written = four_words (decimal t) (codes "-") (codes "down") (decimal n) moment bus word node (cause_text cause.0 ∷ []) (w ∷ []) tm.written dash down nm.written
+      written = four_words (decimal t) (codes "-") (codes "down") (decimal n) moment bus word node (cause_text cause.0 ∷ []) (w ∷ [])
+          tm.written dash down nm.written
           (one_word (cause_text cause.0) w (named-some cause_text causes w cause.0 cause.1));
     } in
     subst P cause.2 laid
 down_laid t moment bus word n node (w ∷ x ∷ ws) line tm nm dash down found = cc found
 
-over_laid : (t : ℕ) (moment bus word : List ℕ) (n : ℕ) (node : List ℕ) (rest : List (List ℕ)) (line : Line) → IsNumber 0 word64 t moment → IsNumber 0 word32 n node → codes "-" ≡ bus → codes "over" ≡ word
+over_laid : (t : ℕ) (moment bus word : List ℕ) (n : ℕ) (node : List ℕ) (rest : List (List ℕ)) (line : Line) → IsNumber 0 word64 t moment
+    → IsNumber 0 word32 n node → codes "-" ≡ bus → codes "over" ≡ word
     → bare (Over t n) rest ≡ Some line → IsLaid line (moment ∷ bus ∷ word ∷ node ∷ rest)
 over_laid t moment bus word n node [] line tm nm dash over found =
     let same : Over t n ≡ line = same_Some (Over t n) line found in
@@ -310,12 +380,14 @@ over_laid t moment bus word n node [] line tm nm dash over found =
     let laid : P (Over t n) = record {
       is = refl;
       fits = and_from (nat_lt t (2 ^ 64)) (nat_lt n (2 ^ 32)) (long_number t moment tm) (word_number n node nm);
-      written = four_words (decimal t) (codes "-") (codes "over") (decimal n) moment bus word node [] [] tm.written dash over nm.written refl;
+      written = four_words (decimal t) (codes "-") (codes "over") (decimal n) moment bus word node [] [] tm.written dash over nm.written
+          refl;
     } in
     subst P same laid
 over_laid t moment bus word n node (w ∷ ws) line tm nm dash over found = cc found
 
-node_line_laid : (moment bus word node : List ℕ) (rest : List (List ℕ)) (line : Line) → node_line_in moment bus word node rest ≡ Some line → IsLaid line (moment ∷ bus ∷ word ∷ node ∷ rest)
+node_line_laid : (moment bus word node : List ℕ) (rest : List (List ℕ)) (line : Line) → node_line_in moment bus word node rest ≡ Some line
+    → IsLaid line (moment ∷ bus ∷ word ∷ node ∷ rest)
 node_line_laid moment bus word node rest line found =
     let t = bind_some (number_in 0 word64 moment) _ line found in
     let n = bind_some (number_in 0 word32 node) _ line t.2 in
@@ -324,17 +396,22 @@ node_line_laid moment bus word node rest line found =
   where
     by : (t n : ℕ) → IsNumber 0 word64 t moment → IsNumber 0 word32 n node → (dash down over : Bool)
         → bytes_eq bus (codes "-") ≡ dash → bytes_eq word (codes "down") ≡ down → bytes_eq word (codes "over") ≡ over
-        → (if dash then (if down then option_map (Down t n) (one cause_named rest) else if over then bare (Over t n) rest else None) else bus_line_in t bus word n rest) ≡ Some line
+        → (if dash then (if down then option_map (Down t n) (one cause_named rest) else if over then bare (Over t n) rest else None) else
+        bus_line_in t bus word n rest) ≡ Some line
         → IsLaid line (moment ∷ bus ∷ word ∷ node ∷ rest)
-    by t n tm nm true true over d w o found' = down_laid t moment bus word n node rest line tm nm (sym (word_is bus (codes "-") d)) (sym (word_is word (codes "down") w)) found'
-    by t n tm nm true false true d w o found' = over_laid t moment bus word n node rest line tm nm (sym (word_is bus (codes "-") d)) (sym (word_is word (codes "over") o)) found'
+    by t n tm nm true true over d w o found' = down_laid t moment bus word n node rest line tm nm (sym (word_is bus (codes "-") d))
+        (sym (word_is word (codes "down") w)) found'
+    by t n tm nm true false true d w o found' = over_laid t moment bus word n node rest line tm nm (sym (word_is bus (codes "-") d))
+        (sym (word_is word (codes "over") o)) found'
     by t n tm nm true false false d w o found' = cc found'
     by t n tm nm false down over d w o found' = bus_line_laid t moment bus word n node rest line tm nm found'
 
 end_laid : (word status events : List ℕ) (line : Line) → end_in word status events ≡ Some line → IsLaid line (word ∷ status ∷ events ∷ [])
 end_laid word status events line found =
-    let test = if_some (bytes_eq word (codes "end")) (option_and_then (λ s. option_map (End s) (number_in 0 word64 events)) (option_and_then status_of (number_in 0 8 status))) line found in
-    let s = bind_some (option_and_then status_of (number_in 0 8 status)) (λ s. option_map (End s) (number_in 0 word64 events)) line test.1 in
+    let test = if_some (bytes_eq word (codes "end")) (option_and_then (λ s. option_map (End s) (number_in 0 word64 events))
+    (option_and_then status_of (number_in 0 8 status))) line found in
+    let s = bind_some (option_and_then status_of (number_in 0 8 status)) (λ s. option_map (End s) (number_in 0 word64 events)) line test.1
+    in
     let n = bind_some (number_in 0 8 status) status_of s.0 s.1 in
     let e = map_some (number_in 0 word64 events) (End s.0) line s.2 in
     let allowed = if_some (n.0 == 0 || n.0 == 8) (Some n.0) s.0 n.2 in
@@ -346,7 +423,8 @@ end_laid word status events line found =
     let laid : P (End s.0 e.0) = record {
       is = subst Q same allowed.0;
       fits = long_number e.0 events em;
-      written = three_words (codes "end") (decimal s.0) (decimal e.0) word status events (sym (word_is word (codes "end") test.0)) (ap decimal (sym same) ∙ nm.written) em.written;
+      written = three_words (codes "end") (decimal s.0) (decimal e.0) word status events (sym (word_is word (codes "end") test.0))
+          (ap decimal (sym same) ∙ nm.written) em.written;
     } in
     subst P e.2 laid
 

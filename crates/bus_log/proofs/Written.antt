@@ -61,7 +61,8 @@ three_over u v w first second third = rw (first, second, third) refl
 small_over : (low high n : ℕ) → high < 2 ^ 64 → is_within low high n ≡ true → over 32 (decimal n) ≡ true
 small_over low high n limit inside = over-decimal 32 n (omega arith) (omega (arith, (is_within-parts low high n inside).1))
 
-said_over : (told : Told) → is_told told ≡ true → told_fits told ≡ true → (over 32 (said told).0 ≡ true) × (all_over 32 (said told).1 ≡ true)
+said_over : (told : Told) → is_told told ≡ true → told_fits told ≡ true
+    → (over 32 (said told).0 ≡ true) × (all_over 32 (said told).1 ≡ true)
 said_over (log.Req f) is fits = (refl, one_over (frame_text f) (over-frame f))
 said_over (log.Full f) is fits = (refl, one_over (frame_text f) (over-frame f))
 said_over (log.Drop f) is fits = (refl, one_over (frame_text f) (over-frame f))
@@ -102,7 +103,13 @@ on_fits t b n told fits =
     let all = and_parts (nat_lt t (2 ^ 64) && nat_lt b (2 ^ 32) && nat_lt n (2 ^ 32)) (told_fits told) fits in
     let three = and_parts (nat_lt t (2 ^ 64) && nat_lt b (2 ^ 32)) (nat_lt n (2 ^ 32)) all.0 in
     let two = and_parts (nat_lt t (2 ^ 64)) (nat_lt b (2 ^ 32)) three.0 in
-    record { moment = limit_above t (2 ^ 64) two.0; bus = limit_above b (2 ^ 32) two.1; node = limit_above n (2 ^ 32) three.1; told_fits = all.1 }
+    record {
+      moment = limit_above t (2 ^ 64) two.0;
+      bus = limit_above b (2 ^ 32) two.1;
+      node = limit_above n (2 ^ 32) three.1;
+      told_fits
+          = all.1;
+    }
 
 -- the tests of a line of a node and no bus
 unit_fits : (t n : ℕ) → (nat_lt t (2 ^ 64) && nat_lt n (2 ^ 32)) ≡ true → (t < 2 ^ 64) × (n < 2 ^ 32)
@@ -117,7 +124,13 @@ words_over : (line : Line) → IsLine line → Fits line → all_over 32 (words 
 words_over (On t b n told) is fits =
     let f = on_fits t b n told fits in
     let s = said_over told is f.told_fits in
-    rw (over-decimal 32 t (omega arith) f.moment, over-decimal 32 b (omega arith) (omega (arith, f.bus)), s.0, over-decimal 32 n (omega arith) (omega (arith, f.node))) s.1
+    rw (
+      over-decimal 32 t (omega arith) f.moment,
+      over-decimal 32 b (omega arith) (omega (arith, f.bus)),
+      s.0,
+      over-decimal 32 n
+          (omega arith) (omega (arith, f.node)),
+    ) s.1
 words_over (Down t n cause) is fits =
     let f = unit_fits t n fits in
     rw (over-decimal 32 t (omega arith) f.0, over-decimal 32 n (omega arith) (omega (arith, f.1)), cause_over cause) refl
@@ -204,13 +217,15 @@ line_in-words (End status events) is fits =
 
 -- ---- lines
 
-read_of_words : (w : List ℕ) (ws : List (List ℕ)) → all_over 32 (w ∷ ws) ≡ true → line_of_text (joined 32 (w ∷ ws) ++ 10 ∷ []) ≡ line_in (w ∷ ws)
+read_of_words : (w : List ℕ) (ws : List (List ℕ)) → all_over 32 (w ∷ ws) ≡ true
+    → line_of_text (joined 32 (w ∷ ws) ++ 10 ∷ []) ≡ line_in (w ∷ ws)
 unfolding line_of_text
 read_of_words w ws above =
     let whole = cut_line (joined 32 (w ∷ ws)) (line_without (w ∷ ws) above) in
     rw whole (ap line_in (words_of_line w ws above))
 
-text_read : (line : Line) (w : List ℕ) (ws : List (List ℕ)) → words line ≡ w ∷ ws → IsLine line → Fits line → line_of_text (line_text line) ≡ Some line
+text_read : (line : Line) (w : List ℕ) (ws : List (List ℕ)) → words line ≡ w ∷ ws → IsLine line → Fits line
+    → line_of_text (line_text line) ≡ Some line
 unfolding line_text
 text_read line w ws is_words is fits =
     let P : List (List ℕ) → Type 0 = λ xs. all_over 32 xs ≡ true in
@@ -220,7 +235,10 @@ text_read line w ws is_words is fits =
 
 -- the text of a line is read as it
 pub line_of_text-line_text : (line : Line) → IsLine line → Fits line → line_of_text (line_text line) ≡ Some line
-line_of_text-line_text (On t b n told) is fits = text_read (On t b n told) (decimal t) (decimal b ∷ (said told).0 ∷ decimal n ∷ (said told).1) refl is fits
-line_of_text-line_text (Down t n cause) is fits = text_read (Down t n cause) (decimal t) (codes "-" ∷ codes "down" ∷ decimal n ∷ cause_text cause ∷ []) refl is fits
+line_of_text-line_text (On t b n told) is fits = text_read (On t b n told) (decimal t)
+    (decimal b ∷ (said told).0 ∷ decimal n ∷ (said told).1) refl is fits
+line_of_text-line_text (Down t n cause) is fits = text_read (Down t n cause) (decimal t)
+    (codes "-" ∷ codes "down" ∷ decimal n ∷ cause_text cause ∷ []) refl is fits
 line_of_text-line_text (Over t n) is fits = text_read (Over t n) (decimal t) (codes "-" ∷ codes "over" ∷ decimal n ∷ []) refl is fits
-line_of_text-line_text (End status events) is fits = text_read (End status events) (codes "end") (decimal status ∷ decimal events ∷ []) refl is fits
+line_of_text-line_text (End status events) is fits = text_read (End status events) (codes "end") (decimal status ∷ decimal events ∷ []) refl
+    is fits

@@ -30,7 +30,8 @@ abbrev pub named : {A : Type 0} → (A → List ℕ) → List A → List ℕ →
 named text all word = find (λ a. bytes_eq word (text a)) all
 
 abbrev pub verbs : List Verb
-verbs = Req ∷ Full ∷ Drop ∷ Keep ∷ Discard ∷ Wake ∷ Sleep ∷ Rate ∷ FdRate ∷ Status ∷ State ∷ FormatError ∷ Bad ∷ Told ∷ Back ∷ Start ∷ Lost ∷ Done ∷ Fail ∷ Hurt ∷ []
+verbs = Req ∷ Full ∷ Drop ∷ Keep ∷ Discard ∷ Wake ∷ Sleep ∷ Rate ∷ FdRate ∷ Status ∷ State ∷ FormatError ∷ Bad ∷ Told ∷ Back ∷ Start ∷ Lost
+    ∷ Done ∷ Fail ∷ Hurt ∷ []
 
 abbrev pub verb_named : List ℕ → Option Verb
 verb_named word = named verb_text verbs word

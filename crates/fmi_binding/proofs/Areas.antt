@@ -18,7 +18,8 @@ each_byte (b ∷ bs) small =
     let same : b % 256 ≡ b = omega (arith, first) in
     ap (λ n. n ∷ map (λ b. b % 256) bs) same ∙ ap (λ (l : List ℕ). b ∷ l) (each_byte bs (λ i. small (suc i)))
 
-pub nothing_there : (place count : ℕ) (h : Held) → None ≡ bytes_at h.store.bytes (h.area + place) count → Comes (bytes_in_area place count) h h (Err BadBuffer)
+pub nothing_there : (place count : ℕ) (h : Held) → None ≡ bytes_at h.store.bytes (h.area + place) count
+    → Comes (bytes_in_area place count) h h (Err BadBuffer)
 nothing_there place count h e = record {
   each = λ used. (
     used,
@@ -26,7 +27,8 @@ nothing_there place count h e = record {
   );
 }
 
-pub bytes_there : (place count : ℕ) (h : Held) (bytes : List ℕ) → Some bytes ≡ bytes_at h.store.bytes (h.area + place) count → map (λ b. b % 256) bytes ≡ bytes
+pub bytes_there : (place count : ℕ) (h : Held) (bytes : List ℕ) → Some bytes ≡ bytes_at h.store.bytes (h.area + place) count
+    → map (λ b. b % 256) bytes ≡ bytes
     → Comes (bytes_in_area place count) h h (Ok bytes)
 bytes_there place count h bytes e same = record {
   each = λ used. (
@@ -36,34 +38,42 @@ bytes_there place count h bytes e same = record {
   );
 }
 
-pub number_there : (place count : ℕ) (h : Held) (bytes : List ℕ) → Comes (bytes_in_area place count) h h (Ok bytes) → Comes (number_in_area place count) h h (Ok (number_of_bytes bytes))
+pub number_there : (place count : ℕ) (h : Held) (bytes : List ℕ) → Comes (bytes_in_area place count) h h (Ok bytes)
+    → Comes (number_in_area place count) h h (Ok (number_of_bytes bytes))
 number_there place count h bytes read =
-    comes_on (bytes_in_area place count) (λ bytes. gives (number_of_bytes bytes)) h h h bytes (Ok (number_of_bytes bytes)) read (gives_comes (number_of_bytes bytes) h)
+    comes_on (bytes_in_area place count) (λ bytes. gives (number_of_bytes bytes)) h h h bytes (Ok (number_of_bytes bytes)) read
+    (gives_comes (number_of_bytes bytes) h)
 
-pub no_number : (place count : ℕ) (h : Held) (why : Broken) → Comes (bytes_in_area place count) h h (Err why) → Comes (number_in_area place count) h h (Err why)
+pub no_number : (place count : ℕ) (h : Held) (why : Broken) → Comes (bytes_in_area place count) h h (Err why)
+    → Comes (number_in_area place count) h h (Err why)
 no_number place count h why read = comes_broken (bytes_in_area place count) (λ bytes. gives (number_of_bytes bytes)) h h why read
 
-pub flag_there : (place : ℕ) (h : Held) (r : Result ℕ Broken) → Comes (number_in_area place 4) h h r → Comes (flag_in_area place) h h (then_in r (λ n. wanted_in BadReply (slice_get (false ∷ true ∷ []) n)))
+pub flag_there : (place : ℕ) (h : Held) (r : Result ℕ Broken) → Comes (number_in_area place 4) h h r
+    → Comes (flag_in_area place) h h (then_in r (λ n. wanted_in BadReply (slice_get (false ∷ true ∷ []) n)))
 flag_there place h r read =
-    comes_then (number_in_area place 4) (λ n. wanted BadReply (slice_get (false ∷ true ∷ []) n)) h h r (λ n. wanted_in BadReply (slice_get (false ∷ true ∷ []) n))
+    comes_then (number_in_area place 4) (λ n. wanted BadReply (slice_get (false ∷ true ∷ []) n)) h h r
+    (λ n. wanted_in BadReply (slice_get (false ∷ true ∷ []) n))
     read (λ n. wanted_comes BadReply (slice_get (false ∷ true ∷ []) n) h)
 
 pub qualifier_there : (place : ℕ) (h : Held) (r : Result ℕ Broken) → Comes (number_in_area place 4) h h r
     → Comes (qualifier_in_area place) h h (then_in r (λ n. wanted_in BadReply (slice_get (NotYetKnown ∷ Unchanged ∷ Changed ∷ []) n)))
 qualifier_there place h r read =
-    comes_then (number_in_area place 4) (λ n. wanted BadReply (slice_get (NotYetKnown ∷ Unchanged ∷ Changed ∷ []) n)) h h r (λ n. wanted_in BadReply (slice_get (NotYetKnown ∷ Unchanged ∷ Changed ∷ []) n))
+    comes_then (number_in_area place 4) (λ n. wanted BadReply (slice_get (NotYetKnown ∷ Unchanged ∷ Changed ∷ []) n)) h h r
+    (λ n. wanted_in BadReply (slice_get (NotYetKnown ∷ Unchanged ∷ Changed ∷ []) n))
     read (λ n. wanted_comes BadReply (slice_get (NotYetKnown ∷ Unchanged ∷ Changed ∷ []) n) h)
 
 pub no_count : (most : ℕ) (h : Held) (why : Broken) → Comes (number_in_area 0 4) h h (Err why) → Comes (binary_in_area most) h h (Err why)
 no_count most h why read = comes_broken (number_in_area 0 4) (λ count. bytes_if (nat_le count most) count) h h why read
 
-pub binary_there : (most count : ℕ) (h : Held) (r : Result (List ℕ) Broken) → Comes (number_in_area 0 4) h h (Ok count) → nat_le count most ≡ true
+pub binary_there : (most count : ℕ) (h : Held) (r : Result (List ℕ) Broken) → Comes (number_in_area 0 4) h h (Ok count)
+    → nat_le count most ≡ true
     → Comes (bytes_in_area 64 count) h h r → Comes (binary_in_area most) h h r
 binary_there most count h r read fits bytes =
     comes_on (number_in_area 0 4) (λ count. bytes_if (nat_le count most) count) h h h count r read
     (subst (λ b. Comes (bytes_if b count) h h r) (sym fits) bytes)
 
-pub too_many_bytes : (most count : ℕ) (h : Held) → Comes (number_in_area 0 4) h h (Ok count) → nat_le count most ≡ false → Comes (binary_in_area most) h h (Err BadBuffer)
+pub too_many_bytes : (most count : ℕ) (h : Held) → Comes (number_in_area 0 4) h h (Ok count) → nat_le count most ≡ false
+    → Comes (binary_in_area most) h h (Err BadBuffer)
 too_many_bytes most count h read fits =
     comes_on (number_in_area 0 4) (λ count. bytes_if (nat_le count most) count) h h h count (Err BadBuffer) read
     (subst (λ b. Comes (bytes_if b count) h h (Err BadBuffer)) (sym fits) (breaks_comes BadBuffer h))

@@ -27,7 +27,8 @@ module _ {A B : Type 0} (p : Piece A) (next : A → Piece B) (h k : Held) where
   }
 
   -- where what comes next only looks at what it gets
-  pub comes_then : (r : Result A Broken) (f : A → Result B Broken) → Comes p h k r → ((x : A) → Comes (next x) k k (f x)) → Comes (p >>= next) h k (then_in r f)
+  pub comes_then : (r : Result A Broken) (f : A → Result B Broken) → Comes p h k r → ((x : A) → Comes (next x) k k (f x))
+      → Comes (p >>= next) h k (then_in r f)
   comes_then (Ok x) f first second = comes_on k x (f x) first (second x)
   comes_then (Err why) f first second = comes_broken why first
 
@@ -46,7 +47,9 @@ number_comes [] h = breaks_comes BadReply h
 number_comes (n ∷ []) h = gives_comes n h
 number_comes (n ∷ m ∷ ns) h = breaks_comes BadReply h
 
-pub status_comes : (numbers : List ℕ) (h : Held) → Comes (the_number numbers >>= λ n. wanted BadReply (slice_get statuses n)) h h (status_in numbers)
+pub status_comes : (numbers : List ℕ) (h : Held) → Comes (the_number numbers >>= λ n. wanted BadReply (slice_get statuses n)) h h
+    (status_in numbers)
 status_comes numbers h =
-    comes_then (the_number numbers) (λ n. wanted BadReply (slice_get statuses n)) h h (number_in numbers) (λ n. wanted_in BadReply (slice_get statuses n))
+    comes_then (the_number numbers) (λ n. wanted BadReply (slice_get statuses n)) h h (number_in numbers)
+    (λ n. wanted_in BadReply (slice_get statuses n))
     (number_comes numbers h) (λ n. wanted_comes BadReply (slice_get statuses n) h)

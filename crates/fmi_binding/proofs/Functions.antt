@@ -81,12 +81,14 @@ fits_by_name m bound f arguments index fit named =
       fit = subst (λ (t : FuncType). Fit t.params arguments) (sym there.ty) fit;
     }
 
-pub calls_nothing : (g : Guest) (f : Function) (arguments : List ℕ) (h : Held) → None ≡ index_of g.code f → Comes (calls g f arguments) h h (Err broken.Trap)
+pub calls_nothing : (g : Guest) (f : Function) (arguments : List ℕ) (h : Held) → None ≡ index_of g.code f
+    → Comes (calls g f arguments) h h (Err broken.Trap)
 calls_nothing g f arguments h e =
     comes_broken (wanted broken.Trap (index_of g.code f)) (λ index. run g.code g.budget index arguments) h h broken.Trap
     (subst (λ o. Comes (wanted broken.Trap o) h h (Err broken.Trap)) e (breaks_comes broken.Trap h))
 
-pub calls_by_name : (g : Guest) (f : Function) (arguments : List ℕ) (index : ℕ) (h k : Held) (r : Result (List ℕ) Broken) → Some index ≡ index_of g.code f
+pub calls_by_name : (g : Guest) (f : Function) (arguments : List ℕ) (index : ℕ) (h k : Held) (r : Result (List ℕ) Broken)
+    → Some index ≡ index_of g.code f
     → Comes (run g.code g.budget index arguments) h k r → Comes (calls g f arguments) h k r
 calls_by_name g f arguments index h k r e ran =
     comes_on (wanted broken.Trap (index_of g.code f)) (λ index. run g.code g.budget index arguments) h h k index r
@@ -99,7 +101,8 @@ status_by_numbers g f arguments h k r called =
     called (λ numbers. status_comes numbers k)
 
 -- what a run came to, a call by name comes to
-pub called_by_name : (g : Guest) (f : Function) (arguments : List ℕ) (index : ℕ) (h k : Held) (o : Result (Option ℕ) Broken) → Some index ≡ index_of g.code f
+pub called_by_name : (g : Guest) (f : Function) (arguments : List ℕ) (index : ℕ) (h k : Held) (o : Result (Option ℕ) Broken)
+    → Some index ≡ index_of g.code f
     → Comes (run g.code g.budget index arguments) h k (numbers_in o) → Comes (calls g f arguments) h k (numbers_in o)
 called_by_name g f arguments index h k o e ran = calls_by_name g f arguments index h k (numbers_in o) e ran
 

@@ -21,34 +21,56 @@ use Rattle.binding_laws.specs.Words.{is_instantiation}
 use Rattle.fmi_binding.specs.Coming.{Held, work_with, Comes, HasLength}
 use Rattle.fmi_binding.proofs.Coming.{comes_on, comes_broken, gives_comes}
 
-pub written : (address : ℕ) (bytes : List ℕ) (s : Store) (area : ℕ) (bs gs : List ℕ) → nat_le (address + length bytes) (length s.bytes) ≡ true
+pub written : (address : ℕ) (bytes : List ℕ) (s : Store) (area : ℕ) (bs gs : List ℕ)
+    → nat_le (address + length bytes) (length s.bytes) ≡ true
     → bs ≡ replaced_at s.bytes address bytes → gs ≡ s.globals
-    → Comes (writes address bytes) (record { store = s; area = area }) (record { store = record { bytes = bs; globals = gs }; area = area }) (Ok tt)
+    → Comes (writes address bytes) (record { store = s; area = area }) (record { store = record { bytes = bs; globals = gs }; area = area })
+    (Ok tt)
 written address bytes s area bs gs fits now same = record {
   each = λ used. (
     used,
-    ap (λ b. if b then (Ok tt, work_with (record { store = record { bytes = replaced_at s.bytes address bytes; globals = s.globals }; area = area }) used)
+    ap (λ b. if b then (
+      Ok tt,
+      work_with (record {
+        store = record { bytes = replaced_at s.bytes address bytes; globals = s.globals };
+        area
+            = area;
+      }) used,
+    )
         else (Err BadBuffer, work_with (record { store = s; area = area }) used)) fits
-        ∙ ap (λ (xs : List ℕ). (Ok tt, work_with (record { store = record { bytes = xs; globals = s.globals }; area = area }) used)) (sym now)
+        ∙ ap (λ (xs : List ℕ). (Ok tt, work_with (record { store = record { bytes = xs; globals = s.globals }; area = area }) used))
+        (sym now)
         ∙ ap (λ (xs : List ℕ). (Ok tt, work_with (record { store = record { bytes = bs; globals = xs }; area = area }) used)) (sym same),
   );
 }
 
-pub not_written : (address : ℕ) (bytes : List ℕ) (s : Store) (area : ℕ) (bs gs : List ℕ) → nat_le (address + length bytes) (length s.bytes) ≡ false
+pub not_written : (address : ℕ) (bytes : List ℕ) (s : Store) (area : ℕ) (bs gs : List ℕ)
+    → nat_le (address + length bytes) (length s.bytes) ≡ false
     → bs ≡ s.bytes → gs ≡ s.globals
-    → Comes (writes address bytes) (record { store = s; area = area }) (record { store = record { bytes = bs; globals = gs }; area = area }) (Err BadBuffer)
+    → Comes (writes address bytes) (record { store = s; area = area }) (record { store = record { bytes = bs; globals = gs }; area = area })
+    (Err BadBuffer)
 not_written address bytes s area bs gs fits now same = record {
   each = λ used. (
     used,
-    ap (λ b. if b then (Ok tt, work_with (record { store = record { bytes = replaced_at s.bytes address bytes; globals = s.globals }; area = area }) used)
+    ap (λ b. if b then (
+      Ok tt,
+      work_with (record {
+        store = record { bytes = replaced_at s.bytes address bytes; globals = s.globals };
+        area
+            = area;
+      }) used,
+    )
         else (Err BadBuffer, work_with (record { store = s; area = area }) used)) fits
-        ∙ ap (λ (xs : List ℕ). (Err BadBuffer, work_with (record { store = record { bytes = xs; globals = s.globals }; area = area }) used)) (sym now)
-        ∙ ap (λ (xs : List ℕ). (Err BadBuffer, work_with (record { store = record { bytes = bs; globals = xs }; area = area }) used)) (sym same),
+        ∙ ap (λ (xs : List ℕ). (Err BadBuffer, work_with (record { store = record { bytes = xs; globals = s.globals }; area = area }) used))
+        (sym now)
+        ∙ ap (λ (xs : List ℕ). (Err BadBuffer, work_with (record { store = record { bytes = bs; globals = xs }; area = area }) used))
+        (sym same),
   );
 }
 
 -- nothing comes before another call
-pub unprepared : (g : Guest) (c : Call) (h : Held) → is_instantiation c ≡ false → ((reference : ℕ) (bytes : List ℕ) → c ≡ call.SetBinary reference bytes → ⊥)
+pub unprepared : (g : Guest) (c : Call) (h : Held) → is_instantiation c ≡ false
+    → ((reference : ℕ) (bytes : List ℕ) → c ≡ call.SetBinary reference bytes → ⊥)
     → Comes (prepares g c) h h (Ok tt)
 unprepared g call.Instantiate h other set = cc other
 unprepared g (call.SetBinary reference bytes) h other set = absurd (set reference bytes refl)
@@ -81,10 +103,13 @@ has_length (call.DoStep from size) set = tt
 has_length call.Terminate set = tt
 has_length call.Free set = tt
 
-pub freed : (g : Guest) (h k : Held) (numbers : List ℕ) → Comes (calls g function.Free []) h k (Ok numbers) → Comes (status_by g call.Free) h k (Ok status.Ok)
-freed g h k numbers called = comes_on (calls g function.Free []) (λ numbers. gives status.Ok) h k k numbers (Ok status.Ok) called (gives_comes status.Ok k)
+pub freed : (g : Guest) (h k : Held) (numbers : List ℕ) → Comes (calls g function.Free []) h k (Ok numbers)
+    → Comes (status_by g call.Free) h k (Ok status.Ok)
+freed g h k numbers called = comes_on (calls g function.Free []) (λ numbers. gives status.Ok) h k k numbers (Ok status.Ok) called
+    (gives_comes status.Ok k)
 
-pub not_freed : (g : Guest) (h k : Held) (why : Broken) → Comes (calls g function.Free []) h k (Err why) → Comes (status_by g call.Free) h k (Err why)
+pub not_freed : (g : Guest) (h k : Held) (why : Broken) → Comes (calls g function.Free []) h k (Err why)
+    → Comes (status_by g call.Free) h k (Err why)
 not_freed g h k why called = comes_broken (calls g function.Free []) (λ numbers. gives status.Ok) h k why called
 
 -- another function than fmi3FreeInstance returns its status

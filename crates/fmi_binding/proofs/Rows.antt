@@ -32,6 +32,7 @@ pub if_ok : (m : NestedModule) (r : Result (Unit {0}) BindError) → binding_fau
 if_ok m (Ok done) e = e
 if_ok m (Err fault) e = tt
 
-pub if_err : (m : NestedModule) (r : Result (Unit {0}) BindError) → binding_fault m ≡ fault_in r → IfErr r (λ fault. binding_fault m ≡ Some fault)
+pub if_err : (m : NestedModule) (r : Result (Unit {0}) BindError) → binding_fault m ≡ fault_in r
+    → IfErr r (λ fault. binding_fault m ≡ Some fault)
 if_err m (Ok done) e = tt
 if_err m (Err fault) e = e

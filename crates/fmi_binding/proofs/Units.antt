@@ -46,5 +46,6 @@ answered_by e s t c i area came r phase comes is moved =
     ∙ ap (λ (p : Phase). (r, state_of (record { bound = e.bound; instance = i; phase = p; area = area }) t)) (sym moved)
 
 -- and the reply suits the call
-pub suits_by : (s new : GuestState) (c : Call) (r : Reply) → state_answer s c ≡ (r, new) → IsTrue (is_permitted s.phase c) → IsTrue (is_suitable c r)
+pub suits_by : (s new : GuestState) (c : Call) (r : Reply) → state_answer s c ≡ (r, new) → IsTrue (is_permitted s.phase c)
+    → IsTrue (is_suitable c r)
 suits_by s new c r e permitted = subst (λ (q : Reply × GuestState). IsTrue (is_suitable c q.0)) e (suits s c permitted)

@@ -15,7 +15,8 @@ use Rattle.fmi_binding.specs.Ecus.{part_at, parts_of, state_of, IsIn}
 
 -- ---- states
 
-pub moves : (s : GuestState) (c : Call) → IsTrue (is_permitted s.phase c) → (state_answer s c).1.phase ≡ next_phase s.phase c (state_answer s c).0
+pub moves : (s : GuestState) (c : Call) → IsTrue (is_permitted s.phase c)
+    → (state_answer s c).1.phase ≡ next_phase s.phase c (state_answer s c).0
 unfolding state_answer
 moves s c permitted = phase_moves (guest_of s) c
 

@@ -14,5 +14,7 @@ returns-clause-comes c = λ phase s area.
     let size = c.area_size-size.ensures in
     let called = rw (c.from.ensures, size) at c.in_ok-returned.ensures.comes in
     let is = rw (size, c.pages.ensures) at c.address_in.ensures.address in
-    subst (λ (q : Result ℕ Broken). Comes (asks_area g) h (held c.call_function.new.guests.pool c.call_function.new.instance (area_after area q)) (done_in q)) (sym is)
-    (area_by_numbers g h k c.call_function.new.instance.memory.pages (numbers_in c.in_ok-returned.returned) c.in_ok-returned.ensures.leaves.there.size (called phase s area))
+    subst (λ (q : Result ℕ Broken). Comes (asks_area g) h (held c.call_function.new.guests.pool c.call_function.new.instance
+    (area_after area q)) (done_in q)) (sym is)
+    (area_by_numbers g h k c.call_function.new.instance.memory.pages (numbers_in c.in_ok-returned.returned)
+    c.in_ok-returned.ensures.leaves.there.size (called phase s area))

@@ -10,7 +10,8 @@ run-requires-clause-fits c =
 
 pub returns-in-None-clause-comes : goal.returns-in-None-clause-comes
 returns-in-None-clause-comes c = λ phase s area.
-    no_start (guest_with c.args.bound.now phase area s) (held c.args.guests.now.pool c.args.instance.now area) (rw c.module.ensures.same at c.in-None.is)
+    no_start (guest_with c.args.bound.now phase area s) (held c.args.guests.now.pool c.args.instance.now area)
+    (rw c.module.ensures.same at c.in-None.is)
 
 pub returns-in-Err-clause-comes : goal.returns-in-Err-clause-comes
 returns-in-Err-clause-comes c = λ phase s area.

@@ -6,7 +6,8 @@ use Rattle.fmi_binding.proofs.bound.check_functions.Given as goal
 
 abbrev pub invariant-loop-left : goal.invariant-loop-left
 invariant-loop-left l = record {
-  rest : first_fault_from (nested_module l.code) l.row (map function_row l.left) ≡ first_fault_from (nested_module l.code) l.first (map function_row l.functions);
+  rest : first_fault_from (nested_module l.code) l.row (map function_row l.left) ≡ first_fault_from (nested_module l.code) l.first
+      (map function_row l.functions);
   row : l.row + length l.left ≡ l.first + length l.functions;
 }
 

@@ -19,4 +19,5 @@ returns-in-Ok c =
 pub returns-in-Ok-2 : goal.returns-in-Ok-2
 returns-in-Ok-2 c =
     let counted = rw c.in-Ok.is at c.in_ok-why.ensures in
-    too_many_bytes c.args.most c.in-Ok.count (held c.args.guests.now.pool c.args.instance.now c.args.area) counted (leb_not c.in-Ok.count c.args.most (rw c.from.ensures at c.if-count-from.false))
+    too_many_bytes c.args.most c.in-Ok.count (held c.args.guests.now.pool c.args.instance.now c.args.area) counted
+    (leb_not c.in-Ok.count c.args.most (rw c.from.ensures at c.if-count-from.false))

@@ -7,7 +7,8 @@ use Rattle.fmi_binding.proofs.reading.flag_in_area.Goals as goal
 
 pub returns-in-Err : goal.returns-in-Err
 returns-in-Err c =
-    flag_there c.args.place (held c.args.guests.now.pool c.args.instance.now c.args.area) (Err c.in-Err.why) (rw c.in-Err.is at c.in_ok-why.ensures)
+    flag_there c.args.place (held c.args.guests.now.pool c.args.instance.now c.args.area) (Err c.in-Err.why)
+    (rw c.in-Err.is at c.in_ok-why.ensures)
 
 pub returns-in-Ok : goal.returns-in-Ok
 returns-in-Ok c =

@@ -7,7 +7,8 @@ use Rattle.fmi_binding.proofs.reading.number_in_area.Goals as goal
 
 pub returns-in-Err : goal.returns-in-Err
 returns-in-Err c =
-    no_number c.args.place c.args.count (held c.args.guests.now.pool c.args.instance.now c.args.area) c.in-Err.why (rw c.in-Err.is at c.in_ok-why.ensures.comes)
+    no_number c.args.place c.args.count (held c.args.guests.now.pool c.args.instance.now c.args.area) c.in-Err.why
+    (rw c.in-Err.is at c.in_ok-why.ensures.comes)
 
 pub returns-in-Ok : goal.returns-in-Ok
 returns-in-Ok c =

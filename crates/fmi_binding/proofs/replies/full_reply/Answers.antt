@@ -22,7 +22,10 @@ returns-in-GetBinary c =
     let h = held c.args.guests.now.pool c.args.instance.now c.args.area in
     if_ok c.data_reply.result c.data_reply.ensures (λ r reply phase s.
     let g = guest_with c.args.bound.now phase c.args.area s in
-    subst (λ (a : Call). Comes (full_reply g a c.args.status) h h r) (sym c.in-GetBinary.is) (reply g c.in-GetBinary.reference (sym (c.most_bytes-most.ensures ∙ ap (λ (ts : List Terminal). most_bytes ts c.in-GetBinary.reference) (c.deref.ensures.value ∙ ap (λ (b : BoundUnit). b.description.terminals) c.bound.view_is)))))
+    subst (λ (a : Call). Comes (full_reply g a c.args.status) h h r) (sym c.in-GetBinary.is)
+    (reply g c.in-GetBinary.reference (sym (c.most_bytes-most.ensures ∙ ap
+    (λ (ts : List Terminal). most_bytes ts c.in-GetBinary.reference)
+    (c.deref.ensures.value ∙ ap (λ (b : BoundUnit). b.description.terminals) c.bound.view_is)))))
 
 pub returns-in-Update : goal.returns-in-Update
 returns-in-Update c =
@@ -41,6 +44,7 @@ returns-in-GetInterval c =
 pub returns-in_default : goal.returns-in_default
 returns-in_default c =
     λ phase s.
-    plain_reply (guest_with c.args.bound.now phase c.args.area s) c.args.call.now c.args.status (held c.args.guests.now.pool c.args.instance.now c.args.area) c.requires.other
+    plain_reply (guest_with c.args.bound.now phase c.args.area s) c.args.call.now c.args.status
+    (held c.args.guests.now.pool c.args.instance.now c.args.area) c.requires.other
     (λ reference e. c.in_default.not-GetClock reference e) (λ reference e. c.in_default.not-GetBinary reference e)
     (λ e. c.in_default.not-Update e) (λ reference e. c.in_default.not-GetInterval reference e)

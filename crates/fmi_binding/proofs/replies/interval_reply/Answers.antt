@@ -7,7 +7,8 @@ use Rattle.fmi_binding.proofs.replies.interval_reply.Goals as goal
 
 pub returns-in-Err : goal.returns-in-Err
 returns-in-Err c =
-    λ g reference. no_counter g reference c.args.status (held c.args.guests.now.pool c.args.instance.now c.args.area) c.in-Err.why (rw c.in-Err.is at c.in_ok-why.ensures)
+    λ g reference. no_counter g reference c.args.status (held c.args.guests.now.pool c.args.instance.now c.args.area) c.in-Err.why
+    (rw c.in-Err.is at c.in_ok-why.ensures)
 
 pub returns-in-Err-2 : goal.returns-in-Err-2
 returns-in-Err-2 c =
@@ -27,7 +28,8 @@ returns-in-Err-3 c =
     let third = rw c.in-Err-3.is at c.in_ok-why-3.ensures in
     interval_behind g reference c.args.status h c.in-Ok.counter (Err c.in-Err-3.why) first
     (resolved g reference c.args.status h c.in-Ok.counter c.in-Ok-2.resolution (Err c.in-Err-3.why) second
-    (not_replied (qualifier_in_area 16) (λ qualifier. Interval c.args.status c.in-Ok.counter c.in-Ok-2.resolution qualifier) h c.in-Err-3.why third))
+    (not_replied (qualifier_in_area 16) (λ qualifier. Interval c.args.status c.in-Ok.counter c.in-Ok-2.resolution qualifier) h
+    c.in-Err-3.why third))
 
 pub returns-in-Ok-3 : goal.returns-in-Ok-3
 returns-in-Ok-3 c =
@@ -38,4 +40,5 @@ returns-in-Ok-3 c =
     let third = rw c.in-Ok-3.is at c.in_ok-why-3.ensures in
     interval_behind g reference c.args.status h c.in-Ok.counter _ first
     (resolved g reference c.args.status h c.in-Ok.counter c.in-Ok-2.resolution _ second
-    (replied (qualifier_in_area 16) (λ qualifier. Interval c.args.status c.in-Ok.counter c.in-Ok-2.resolution qualifier) h c.in-Ok-3.qualifier third))
+    (replied (qualifier_in_area 16) (λ qualifier. Interval c.args.status c.in-Ok.counter c.in-Ok-2.resolution qualifier) h
+    c.in-Ok-3.qualifier third))

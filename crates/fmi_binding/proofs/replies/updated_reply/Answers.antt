@@ -7,7 +7,8 @@ use Rattle.fmi_binding.proofs.replies.updated_reply.Goals as goal
 
 pub returns-in-Err : goal.returns-in-Err
 returns-in-Err c =
-    λ g. not_updated g c.args.status (held c.args.guests.now.pool c.args.instance.now c.args.area) c.in-Err.why (rw c.in-Err.is at c.in_ok-why.ensures)
+    λ g. not_updated g c.args.status (held c.args.guests.now.pool c.args.instance.now c.args.area) c.in-Err.why
+    (rw c.in-Err.is at c.in_ok-why.ensures)
 
 pub returns-in-Err-2 : goal.returns-in-Err-2
 returns-in-Err-2 c =

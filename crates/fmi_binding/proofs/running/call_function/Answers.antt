@@ -4,11 +4,13 @@ use Rattle.fmi_binding.proofs.running.call_function.Goals as goal
 
 pub run-requires-clause-fits : goal.run-requires-clause-fits
 run-requires-clause-fits c =
-    fits_by_name c.args.bound.now.code c.requires.bound c.args.function c.args.arguments.now c.in-Some.index c.requires.fit (rw c.module.ensures.same at c.in-Some.ensures)
+    fits_by_name c.args.bound.now.code c.requires.bound c.args.function c.args.arguments.now c.in-Some.index c.requires.fit
+    (rw c.module.ensures.same at c.in-Some.ensures)
 
 pub returns-in-None-clause-comes : goal.returns-in-None-clause-comes
 returns-in-None-clause-comes c = λ phase s area.
-    calls_nothing (guest_with c.args.bound.now phase area s) c.args.function c.args.arguments.now (held c.args.guests.now.pool c.args.instance.now area)
+    calls_nothing (guest_with c.args.bound.now phase area s) c.args.function c.args.arguments.now
+    (held c.args.guests.now.pool c.args.instance.now area)
     (rw c.module.ensures.same at c.in-None.ensures)
 
 pub returns-in-Some-clause-comes : goal.returns-in-Some-clause-comes

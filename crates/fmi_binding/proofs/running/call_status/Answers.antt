@@ -10,4 +10,5 @@ returns-clause-comes c = λ phase s area.
     let h = held c.args.guests.now.pool c.args.instance.now area in
     let k = held c.call_function.new.guests.pool c.call_function.new.instance area in
     subst (Comes (status_of g c.args.function c.args.arguments.now) h k) (sym c.status_in.ensures)
-    (status_by_numbers g c.args.function c.args.arguments.now h k (numbers_in c.in_ok-returned.returned) (c.in_ok-returned.ensures.comes phase s area))
+    (status_by_numbers g c.args.function c.args.arguments.now h k (numbers_in c.in_ok-returned.returned)
+    (c.in_ok-returned.ensures.comes phase s area))
