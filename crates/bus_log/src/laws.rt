@@ -52,7 +52,7 @@ fn number_fits(number: Option<u32>)
     ensures { IfSome number (λ n. nat_lt n (2 ^ 32) ≡ true) }
 {}
 
-/// What stands in a line beside its moment, its bus and its node.
+/// What stands in a line beside its moment, its bus and its node fits.
 fn told_fits(line: &Line)
     ensures { content_fits (line_of line.now) ≡ true }
 {
