@@ -1,4 +1,7 @@
 pub mod History
+pub mod Stores
+pub mod Guests
 pub mod Suited
 pub mod Whole
 pub mod Opened
+pub mod Saving
