@@ -1,10 +1,9 @@
 -- What the calls of a session keep of a guest, and so each session of the units of a plan.
-use Rattle.std.proofs.Common.{◌≡◌, ◌≤◌, ◌<◌, ℕ, ◌+◌, ◌*◌, ◌^◌, Bool, true, false, List, [], ◌∷◌, length, Option, None, Some, slice_get, min}
+use Rattle.std.proofs.Common.{◌≡◌, ◌≤◌, ℕ, true, List, [], ◌∷◌, Option, None, Some, slice_get}
 use Rattle.std.proofs.Common.{arith, refl, sym, ap, subst, ◌∙◌}
 use Rattle.std.specs.Prelude.{IsTrue, ⊤}
 use Rattle.fmi_states.specs.declared.phase.Phase.{Phase}
 use Rattle.fmi_states.specs.declared.phase.Phase.TheVariants.{Fresh, Instantiated, Init, Event, Step, Terminated, Failed, Gone}
-use Rattle.fmi_states.specs.declared.status.FmiStatus.{FmiStatus}
 use Rattle.fmi_states.specs.declared.status.FmiStatus.TheVariants as status
 use Rattle.fmi_states.specs.declared.call.Call.{Call}
 use Rattle.fmi_states.specs.declared.call.Call.TheVariants as call
@@ -22,12 +21,11 @@ use Rattle.session_specs.specs.Outcome as session
 use Rattle.session_specs.specs.Session.{session_of, can_begin, phase_behind}
 use Rattle.session_specs.specs.Exchanges.{Exchange, IsRun, session_calls}
 use Rattle.session_laws.proofs.Whole.{calls_run, stands}
-use Rattle.binding_specs.specs.Guests.{Guest, area_size}
+use Rattle.binding_specs.specs.Guests.{Guest}
 use Rattle.binding_specs.specs.Answers.{answer}
 use Rattle.binding_laws.specs.Words.{HasArea}
 use Rattle.binding_laws.proofs.Sound.{reply_suits, phase_moves}
 use Rattle.binding_laws.proofs.Steady.{area_stays, area_is_placed, same_code, same_description, same_budget}
-use Rattle.world_specs.specs.Units.{Given}
 use Rattle.world_specs.specs.Plan.{Plan, description_of, session_in, units_of}
 use Rattle.saved_specs.specs.Fit.{IsSuited}
 use Rattle.saved_laws.specs.Words.{Begins, KeepsSuited}
@@ -141,7 +139,8 @@ suited fresh g p h =
     let all = most g.code in
     record {
       same = rebuilt fresh g h.code h.description h.budget p;
-      store = subst (λ (m : NestedModule). suits m (pages g.store) g.store.bytes g.store.globals ≡ true) h.code (to-suits g.code g.store h.store);
+      store = subst (λ (m : NestedModule). suits m (pages g.store) g.store.bytes g.store.globals ≡ true) h.code
+          (to-suits g.code g.store h.store);
       area = area;
       address = omega (arith, area, whole, high, all);
     }
@@ -168,11 +167,13 @@ goes-on fresh g h =
 session-suited : (fresh s : Guest) (d : Description) (input : SessionIn) → can_begin s.phase ≡ true → Holds fresh s
     → ((session_of answer phase_of d input s).0).end ≡ session.Live → IsSuited fresh (session_of answer phase_of d input s).1
 session-suited fresh s d input may h e =
-    let moves : (s : Guest) (c : Call) → IsTrue (is_permitted (phase_of s) c) → phase_of (answer s c).1 ≡ next_phase (phase_of s) c (answer s c).0
+    let moves : (s : Guest) (c : Call) → IsTrue (is_permitted (phase_of s) c)
+    → phase_of (answer s c).1 ≡ next_phase (phase_of s) c (answer s c).0
     = λ s c may. phase_moves s c in
     suited fresh (session_of answer phase_of d input s).1
     (stands answer phase_of moves d input s may ∙ ap phase_behind e)
-    (run-holds fresh s (session_calls answer phase_of d input s) (session_of answer phase_of d input s).1 (calls_run answer phase_of moves d input s may) h)
+    (run-holds fresh s (session_calls answer phase_of d input s) (session_of answer phase_of d input s).1
+    (calls_run answer phase_of moves d input s may) h)
 
 pub keep-suited : (p : Plan) (guests : List Guest) → ((node : ℕ) (fresh : Guest) → slice_get guests node ≡ Some fresh → Begins fresh)
     → KeepsSuited guests (units_of answer (λ g. g.phase) p)

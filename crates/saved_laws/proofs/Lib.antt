@@ -1,5 +1,6 @@
 pub mod History
 pub mod Stores
+pub mod Fresh
 pub mod Guests
 pub mod Suited
 pub mod Whole

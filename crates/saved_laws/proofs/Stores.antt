@@ -21,7 +21,7 @@ use Rattle.code_specs.specs.Effects.{store_meaning, meaning_of}
 use Rattle.code_specs.specs.Execution.{Answer, Returned, Trapped, Spent, Stuck, answer_of}
 use Rattle.code_laws.specs.Answers.{Fit}
 use Rattle.code_laws.proofs.Tests.{some_is}
-use Rattle.code_laws.proofs.Kept.{KeepsMeaning, KeepsAnswer, Keeper, kept}
+use Rattle.code_laws.proofs.Kept.{KeepsMeaning, KeepsAnswer, kept}
 use Rattle.code_laws.proofs.Ranges.{numeric_keeps, load_keeps}
 use Rattle.wasm_machine.specs.Making.{global_suits, globals_suit, suits}
 use Rattle.binding_specs.specs.Guests.{Guest, bytes_place, area_size}
@@ -128,7 +128,7 @@ unfolding bytes_of
 counted zero n = refl
 counted (suc count) n = ap suc (counted count (n / 256))
 
-size : (bytes new : List ℕ) (address : ℕ) → address + length new ≤ length bytes → length (replaced_at bytes address new) ≡ length bytes
+pub size : (bytes new : List ℕ) (address : ℕ) → address + length new ≤ length bytes → length (replaced_at bytes address new) ≡ length bytes
 size bytes new address le =
     let one = length-append (take address bytes) (new ++ drop (address + length new) bytes) in
     let two = length-append new (drop (address + length new) bytes) in
@@ -147,8 +147,10 @@ same-size m s t l g h = record {
   globals = subst (λ (ns : List ℕ). globals_suit m.globals ns ≡ true) (sym g) h.globals;
 }
 
-store-keeps : (m : NestedModule) (address count n : ℕ) (s : Store) (b : Bool) → nat_le (address + count) (length s.bytes) ≡ b → StoreSuits m s
-    → KeepsMeaning (StoreSuits m) (store_meaning address (bytes_of count n) s (cond b (Some (slice_range s.bytes address (address + count))) None))
+store-keeps : (m : NestedModule) (address count n : ℕ) (s : Store) (b : Bool) → nat_le (address + count) (length s.bytes) ≡ b
+    → StoreSuits m s
+    → KeepsMeaning (StoreSuits m)
+    (store_meaning address (bytes_of count n) s (cond b (Some (slice_range s.bytes address (address + count))) None))
 store-keeps m address count n s false e h = tt
 store-keeps m address count n s true e h =
     let le = leb-true (address + count) (length s.bytes) e in
@@ -197,7 +199,8 @@ by-meaning m i g numbers s is fits h = h
 
 -- ---- exchanges
 
-outcome-keeps : (P : Store → Type 0) (budget : ℕ) (a : Answer Value) (w : Work) → KeepsAnswer P a → P w.store → P (outcome budget a w).1.store
+outcome-keeps : (P : Store → Type 0) (budget : ℕ) (a : Answer Value) (w : Work) → KeepsAnswer P a → P w.store
+    → P (outcome budget a w).1.store
 outcome-keeps P budget (Returned values s left) w k h = k
 outcome-keeps P budget (Trapped kind s left) w k h = k
 outcome-keeps P budget (Spent s) w k h = k
