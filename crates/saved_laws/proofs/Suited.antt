@@ -37,8 +37,8 @@ module _ (u : Units Guest) (guests : List Guest) (keeps : KeepsSuited guests u) 
     where
       ran : (s : Standing Guest) → StandsSuited fresh s → StandsSuited fresh (node_behind t n (session_from u bs t n s)).standing
       ran (New s) k = let g = given_to bs t n 0 [] in let r = u.session n.number g s in
-          by-end r (r.0).end (λ e. subst (λ (s : Guest). ((u.session n.number g s).0).end ≡ session.Live → IsSuited fresh
-          (u.session n.number g s).1)
+          by-end r (r.0).end
+          (λ e. subst (λ (s : Guest). ((u.session n.number g s).0).end ≡ session.Live → IsSuited fresh (u.session n.number g s).1)
           (sym k) (keeps.first n.number fresh g own) e)
       ran (Live s last clocks) k = let g = given_to bs t n last clocks in let r = u.session n.number g s in
           by-end r (r.0).end (λ e. keeps.later n.number fresh s g own k e)
@@ -114,7 +114,7 @@ pub stay-suited : (u : Units Guest) (p : Plan) (guests : List Guest) (stop k : �
 stay-suited u p guests stop k keeps same =
     let all : From guests 0 guests = λ i g at. let e : i ≡ 0 + i = omega arith in subst (λ k. slice_get guests k ≡ Some g) e at in
     let w = behind (network u stop) k (opening_of p guests) in
-    let h : All (Own guests) w.nodes = along u stop (λ w. All (Own guests) w.nodes) (λ w e n h. step-stays u guests keeps w e h) k
-    (opening_of p guests)
+    let h : All (Own guests) w.nodes =
+    along u stop (λ w. All (Own guests) w.nodes) (λ w e n h. step-stays u guests keeps w e h) k (opening_of p guests)
     (All-each (Own guests) (new_nodes 0 p.nodes guests) (opens-own guests 0 p.nodes guests all)) in
     in-places guests 0 p.nodes guests w.nodes same all (planned-along u p guests stop k).numbers h

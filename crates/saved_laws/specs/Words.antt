@@ -1,5 +1,8 @@
 -- The words of the laws of saved states. Contracts cite this module.
-use Rattle.std.specs.Prelude.{◌≡◌, ◌≤◌, ℕ, All, List, Some, slice_get}
+use Rattle.std.specs.Prelude.{◌≡◌, ◌≤◌, ℕ, true, All, List, Some, slice_get}
+use Rattle.fmi_states.specs.declared.phase.Phase.TheVariants.{Fresh}
+use Rattle.code_specs.specs.Stores.{pages}
+use Rattle.wasm_machine.specs.Making.{suits}
 use Rattle.session_specs.specs.Outcome.{Live}
 use Rattle.binding_specs.specs.Guests.{Guest}
 use Rattle.world_specs.specs.Units.{Given, Units}
@@ -8,6 +11,11 @@ use Rattle.world_specs.specs.Plan.{Plan}
 use Rattle.world_specs.specs.Fits.{Fits}
 use Rattle.world_laws.specs.Words.{IsCounted}
 use Rattle.saved_specs.specs.Fit.{most_nodes, IsSuited}
+
+-- a guest before its first call, with a memory and globals that its code may have
+pub record Begins (g : Guest) : Type 0 where
+  pub phase : g.phase ≡ Fresh
+  pub store : suits g.code (pages g.store) g.store.bytes g.store.globals ≡ true
 
 -- A session of a node, from its fresh guest or from one that is suited, leaves a guest that is suited where the node goes on.
 pub record KeepsSuited (guests : List Guest) (u : Units Guest) : Type 0 where

@@ -1,44 +1,11 @@
 //! Laws of saved states: each is the contract of a function with an empty body.
 #![tactic(auto)]
 
-ghost use Rattle.std.specs.Prelude.{◌≡◌, ◌≤◌, ◌^◌, ℕ, List, length};
-ghost use Rattle.run_specs.specs.Run.{behind};
-ghost use Rattle.binding_specs.specs.Guests.{Guest};
-ghost use Rattle.world_specs.specs.Units.{Units};
-ghost use Rattle.world_specs.specs.Network.{network};
-ghost use Rattle.world_specs.specs.Plan.{Plan, IsPlan, opening_of};
-ghost use Rattle.world_specs.specs.Fits.{UnitsFit};
-ghost use Rattle.state_laws.specs.Words.{SetsWithin, ChangesEach, clocks_in};
-ghost use Rattle.saved_specs.specs.Fit.{AreSuited, Fit};
-ghost use Rattle.saved_laws.specs.Words.{KeepsSuited, Reached};
+mod calls;
+mod runs;
 
-/// A run is behind no more events than it was given, and in every state of it no moment is after the stop, each bus has
-/// had no more attempts than there were events, and has given out no more request numbers than 64 nodes could.
-pub fn each_state_is_reached<S>()
-    ensures reached { (u : Units S) (p : Plan) (states : List S) (k : ℕ) → UnitsFit u → IsPlan p
-        → Reached p k (behind (network u p.stop) k (opening_of p states)) }
-{}
-
-/// Guests stay suited along a run, if each session leaves them so.
-pub fn guests_stay_suited()
-    ensures along { (u : Units Guest) (p : Plan) (guests : List Guest) (stop k : ℕ) → KeepsSuited guests u → length guests ≡ length p.nodes
-        → AreSuited guests (behind (network u stop) k (opening_of p guests)).nodes }
-{}
-
-/// In every state of a run of guests that its budget allows the network fits its plan, if each node's guest suits its code.
-pub fn each_state_fits()
-    ensures fits { (u : Units Guest) (p : Plan) (guests : List Guest) (k : ℕ) → UnitsFit u → SetsWithin (2 ^ 62) u
-        → ChangesEach (clocks_in p) u → IsPlan p → length guests ≡ length p.nodes → k ≤ p.events
-        → AreSuited guests (behind (network u p.stop) k (opening_of p guests)).nodes
-        → Fit p guests (behind (network u p.stop) k (opening_of p guests)) }
-
-    // So it is where each session leaves a guest that suits its code.
-    ensures along { (u : Units Guest) (p : Plan) (guests : List Guest) (k : ℕ) → UnitsFit u → SetsWithin (2 ^ 62) u
-        → ChangesEach (clocks_in p) u → KeepsSuited guests u → IsPlan p → length guests ≡ length p.nodes → k ≤ p.events
-        → Fit p guests (behind (network u p.stop) k (opening_of p guests)) }
-{}
-
-/// A network fits as it opens.
-pub fn what_opens_fits()
-    ensures fits { (p : Plan) (guests : List Guest) → IsPlan p → length guests ≡ length p.nodes → Fit p guests (opening_of p guests) }
-{}
+pub use calls::{calls_keep_stores, fresh_guests_begin, sessions_leave_guests_suited};
+pub use runs::{
+    each_state_fits, each_state_is_reached, each_state_of_guests_fits, guests_stay_suited,
+    what_opens_fits,
+};

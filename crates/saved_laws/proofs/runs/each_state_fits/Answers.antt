@@ -1,6 +1,6 @@
 use Rattle.saved_laws.proofs.Whole.{whole}
 use Rattle.saved_laws.proofs.Suited.{stay-suited}
-use Rattle.saved_laws.proofs.each_state_fits.Goals as goal
+use Rattle.saved_laws.proofs.runs.each_state_fits.Goals as goal
 
 pub returns-clause-fits : goal.returns-clause-fits
 returns-clause-fits c = whole
