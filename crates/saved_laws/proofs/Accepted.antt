@@ -12,8 +12,8 @@ use Rattle.wasm_types.specs.declared.module.GlobalVar.{GlobalVar}
 use Rattle.wasm_types.specs.Modules.{NestedModule}
 use Rattle.wasm_types.specs.Spellable.{width, FitsType}
 use Rattle.module_specs.specs.ModuleSpelling.{most_pages, SpellsMemory, Section, Custom, Types, Imports, Funcs, Tables, Memories, Globals}
-use Rattle.module_specs.specs.ModuleSpelling.{Exports, Start, Elements, Codes, Datas, Before, after, SpellsSectionContent, SpellsSections, put}
-use Rattle.module_specs.specs.ModuleSpelling.{put_all, empty, SpellsModule}
+use Rattle.module_specs.specs.ModuleSpelling.{Exports, Start, Elements, Codes, Datas, Before, after, SpellsSectionContent, SpellsSections}
+use Rattle.module_specs.specs.ModuleSpelling.{put, put_all, empty, SpellsModule}
 use Rattle.module_specs.proofs.SpellableParts.{each_fits, module_fits}
 use Rattle.code_specs.specs.declared.rule.Rule.TheVariants as rule
 use Rattle.code_specs.specs.Values.{is_same}
@@ -126,8 +126,8 @@ one-suits g fits same =
     either true = refl
     either false = refl
 
-globals-suit : (place : ℕ) (gs : List GlobalVar) → All (λ (g : GlobalVar). FitsType g.init) gs → first_failing is_initialized place gs ≡ None
-    → globals_suit gs (map (λ (g : GlobalVar). g.init.value) gs) ≡ true
+globals-suit : (place : ℕ) (gs : List GlobalVar) → All (λ (g : GlobalVar). FitsType g.init) gs
+    → first_failing is_initialized place gs ≡ None → globals_suit gs (map (λ (g : GlobalVar). g.init.value) gs) ≡ true
 globals-suit place [] fits h = refl
 globals-suit place (g ∷ gs) fits h =
     go (is_initialized g) refl h (λ rest. globals-suit (place + 1) gs (All-tail (λ (g : GlobalVar). FitsType g.init) g gs fits) rest)

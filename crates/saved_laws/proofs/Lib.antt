@@ -7,3 +7,4 @@ pub mod Suited
 pub mod Whole
 pub mod Opened
 pub mod Saving
+pub mod Example

@@ -8,8 +8,10 @@ ghost use Rattle.world_specs.specs.Units.{Units};
 ghost use Rattle.world_specs.specs.Network.{network};
 ghost use Rattle.world_specs.specs.Plan.{Plan, IsPlan, opening_of, units_of};
 ghost use Rattle.world_specs.specs.Fits.{UnitsFit};
+ghost use Rattle.world_laws.specs.Cases.{two_buses};
 ghost use Rattle.state_laws.specs.Words.{SetsWithin, ChangesEach, clocks_in};
 ghost use Rattle.saved_specs.specs.Fit.{AreSuited, Fit};
+ghost use Rattle.saved_laws.specs.Cases.{two_guests};
 ghost use Rattle.saved_laws.specs.Words.{Begins, KeepsSuited, Reached};
 
 /// A run is behind no more events than it was given, and in every state of it no moment is after the stop, each bus has
@@ -47,4 +49,10 @@ pub fn each_state_of_guests_fits()
 /// A network fits as it opens.
 pub fn what_opens_fits()
     ensures fits { (p : Plan) (guests : List Guest) → IsPlan p → length guests ≡ length p.nodes → Fit p guests (opening_of p guests) }
+{}
+
+/// There are such networks, so there are states that fit.
+pub fn the_laws_have_cases()
+    ensures fits { (k : ℕ) → k ≤ two_buses.events → Fit two_buses two_guests
+        (behind (network (units_of answer (λ g. g.phase) two_buses) two_buses.stop) k (opening_of two_buses two_guests)) }
 {}
