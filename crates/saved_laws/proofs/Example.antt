@@ -27,5 +27,6 @@ two-begin =
     (All-cons Begins other [] (one-begins gateway two_buses.fuel) (All-nil Begins))
 
 pub two-fit : (k : ℕ) → k ≤ two_buses.events
-    → Fit two_buses two_guests (behind (network (units_of answer (λ g. g.phase) two_buses) two_buses.stop) k (opening_of two_buses two_guests))
+    → Fit two_buses two_guests
+    (behind (network (units_of answer (λ g. g.phase) two_buses) two_buses.stop) k (opening_of two_buses two_guests))
 two-fit k few = guests-fit two_buses two_guests k two_buses-is refl two-begin few

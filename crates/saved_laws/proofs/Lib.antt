@@ -8,3 +8,4 @@ pub mod Whole
 pub mod Opened
 pub mod Saving
 pub mod Example
+pub mod Networks
