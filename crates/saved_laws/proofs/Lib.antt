@@ -1,8 +1,11 @@
 pub mod History
 pub mod Stores
 pub mod Fresh
+pub mod Accepted
 pub mod Guests
 pub mod Suited
 pub mod Whole
 pub mod Opened
 pub mod Saving
+pub mod Example
+pub mod Networks

@@ -1,7 +1,11 @@
 -- The words of the laws of saved states. Contracts cite this module.
-use Rattle.std.specs.Prelude.{◌≡◌, ◌≤◌, ℕ, true, All, List, Some, slice_get}
+use Rattle.std.specs.Prelude.{◌≡◌, ◌≤◌, ℕ, true, All, List, None, Some, slice_get}
 use Rattle.fmi_states.specs.declared.phase.Phase.TheVariants.{Fresh}
+use Rattle.wasm_types.specs.Modules.{NestedModule}
+use Rattle.module_specs.specs.ModuleSpelling.{SpellsModule}
 use Rattle.code_specs.specs.Stores.{pages}
+use Rattle.code_specs.specs.Instances.{first_misfit}
+use Rattle.code_specs.specs.Validity.{IsValid}
 use Rattle.wasm_machine.specs.Making.{suits}
 use Rattle.session_specs.specs.Outcome.{Live}
 use Rattle.binding_specs.specs.Guests.{Guest}
@@ -11,6 +15,13 @@ use Rattle.world_specs.specs.Plan.{Plan}
 use Rattle.world_specs.specs.Fits.{Fits}
 use Rattle.world_laws.specs.Words.{IsCounted}
 use Rattle.saved_specs.specs.Fit.{most_nodes, IsSuited}
+
+-- a module that a file spells, that is valid, and whose segments fit
+pub record IsAccepted (m : NestedModule) : Type 0 where
+  pub file : List ℕ
+  pub spelled : SpellsModule m file
+  pub valid : IsValid m
+  pub fits : first_misfit m ≡ None
 
 -- a guest before its first call, with a memory and globals that its code may have
 pub record Begins (g : Guest) : Type 0 where

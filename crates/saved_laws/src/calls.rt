@@ -4,8 +4,10 @@ ghost use Rattle.std.specs.Prelude.{◌≡◌, ℕ, All, List, None, map, slice_
 ghost use Rattle.fmi_states.specs.declared.call.Call.{Call};
 ghost use Rattle.wasm_types.specs.declared.module.GlobalVar.{GlobalVar};
 ghost use Rattle.wasm_types.specs.Modules.{NestedModule};
+ghost use Rattle.module_specs.specs.ModuleSpelling.{SpellsModule};
 ghost use Rattle.code_specs.specs.Stores.{pages};
 ghost use Rattle.code_specs.specs.Instances.{least, first_misfit};
+ghost use Rattle.code_specs.specs.Validity.{IsValid};
 ghost use Rattle.wasm_machine.specs.Making.{suits, pages_suit, globals_suit};
 ghost use Rattle.unit_specs.specs.Description.{Description};
 ghost use Rattle.binding_specs.specs.Guests.{Guest};
@@ -26,6 +28,10 @@ pub fn fresh_guests_begin()
     ensures begins { (m : NestedModule) (d : Description) (budget : ℕ) → first_misfit m ≡ None
         → pages_suit m (least (slice_get m.memories 0)) ≡ true
         → globals_suit m.globals (map (λ (g : GlobalVar). g.init.value) m.globals) ≡ true → Begins (fresh_guest m d budget) }
+
+    // So it is of a module that a file spells and that is valid.
+    ensures module { (m : NestedModule) (bytes : List ℕ) (d : Description) (budget : ℕ) → SpellsModule m bytes → IsValid m
+        → first_misfit m ≡ None → Begins (fresh_guest m d budget) }
 {}
 
 /// Each session of such a guest leaves one that suits its code where the guest goes on.

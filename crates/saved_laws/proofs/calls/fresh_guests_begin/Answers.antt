@@ -1,5 +1,9 @@
 use Rattle.saved_laws.proofs.Fresh.{fresh-begins}
+use Rattle.saved_laws.proofs.Accepted.{module-begins}
 use Rattle.saved_laws.proofs.calls.fresh_guests_begin.Goals as goal
 
-pub returns : goal.returns
-returns c = record { begins = fresh-begins }
+pub returns-clause-begins : goal.returns-clause-begins
+returns-clause-begins c = fresh-begins
+
+pub returns-clause-module : goal.returns-clause-module
+returns-clause-module c = module-begins
