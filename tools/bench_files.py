@@ -288,7 +288,7 @@ def run(name, main):
     except KeyboardInterrupt:
         sys.exit(130)
     except OSError as error:
-        sys.exit(fail(name, f"{error.filename}: {error.strerror}" if error.filename else error))
+        sys.exit(fail(name, f"{error.filename}: {error.strerror}" if error.filename else error.strerror or error))
     except (ValueError, NotALog) as error:
         sys.exit(fail(name, error))
 
