@@ -45,15 +45,22 @@ from-among i P [] x h a = absurd a
 from-among i P (y ∷ xs) x h (inl e) = (i, subst (P i) e h.0)
 from-among i P (y ∷ xs) x h (inr a) = from-among (i + 1) P xs x h.1 a
 
-pub opens-bounded : {S : Type 0} (p : Plan) (states : List S) → IsPlan p → All (Bounded p.stop (10 ^ 12)) (opening_of p states).buses
-opens-bounded p states ok = All-each (Bounded p.stop (10 ^ 12)) (map (λ b. new_bus b.setup b.members) p.buses)
-    (λ b a. let r = map-among (λ b. new_bus b.setup b.members) p.buses b a in
-    let q = from-among 0 (IsBusPlan p) p.buses r.0 ok.buses r.1 in
+-- in a plan of a network each bit lasts at most a second of 10^12 ticks
+pub plan-bits : (p : Plan) → IsPlan p → (b : BusPlan) → Among p.buses b
+    → (b.setup.nominal ≤ 10 ^ 12) × (data_bit (new_bus b.setup b.members) ≤ 10 ^ 12)
+plan-bits p ok b a =
+    let q = from-among 0 (IsBusPlan p) p.buses b ok.buses a in
     let m = ok.resolution.1 in
-    let n = bit-low p.resolution (r.0).setup.rate (r.0).setup.nominal (q.1).rate in
-    let d = data_bit-low p.resolution (r.0).setup (q.1).rate (q.1).fd_rate in
-    subst (Bounded p.stop (10 ^ 12)) r.2
-    (new_bus-bounded p.stop (10 ^ 12) (r.0).setup (r.0).members (omega (arith, m, n)) (omega (arith, m, d))))
+    let n = bit-low p.resolution b.setup.rate b.setup.nominal (q.1).rate in
+    let d = data_bit-low p.resolution b.setup (q.1).rate (q.1).fd_rate in
+    (omega (arith, m, n), omega (arith, m, d))
+
+pub opens-bounded : {S : Type 0} (p : Plan) (states : List S) (limit ids : ℕ) → IsPlan p
+    → All (Bounded limit (10 ^ 12) ids) (opening_of p states).buses
+opens-bounded p states limit ids ok = All-each (Bounded limit (10 ^ 12) ids) (map (λ b. new_bus b.setup b.members) p.buses)
+    (λ b a. let r = map-among (λ b. new_bus b.setup b.members) p.buses b a in
+    let q = plan-bits p ok r.0 r.1 in
+    subst (Bounded limit (10 ^ 12) ids) r.2 (new_bus-bounded limit (10 ^ 12) ids (r.0).setup (r.0).members q.0 q.1))
 
 -- ---- nodes
 

@@ -21,7 +21,8 @@ ghost use Rattle.world_specs.specs.Step.{world_behind};
 ghost use Rattle.world_specs.specs.Network.{network};
 ghost use Rattle.world_specs.specs.Plan.{Plan, IsPlan, opening_of, units_of};
 ghost use Rattle.world_specs.specs.Fits.{UnitsFit, Fits};
-ghost use Rattle.state_laws.specs.Words.{BusBy, ClocksBy, AllBy, HeldBelow, Bounded, SetsWithin};
+ghost use Rattle.state_laws.specs.Words.{ClocksBy, AllBy, HeldBelow, Bounded, SetsWithin};
+ghost use Rattle.state_laws.specs.Within.{IsWithin};
 ghost use Rattle.state_laws.specs.Words.{HasBegun, IsNewAtFirst, IsAsPlanned, clocks_in, ChangesEach, HasClocks};
 
 /// A frame has fewer than 2,000 bits on the wire, and lasts no longer than 2,000 of the longer of its two bits.
@@ -31,23 +32,20 @@ pub fn each_frame_is_short()
         → duration f nominal data_bit ≤ 2000 * bit }
 {}
 
-/// A bus that is bounded stays so while no event is after the stop. Then all that is still to happen on it happens by
-/// a moment little behind the stop, and its identifiers are below 2^29.
+/// A bus that is bounded stays so while the limit is 2,000 bits behind each event. Identifiers of frames are below 2^29.
 pub fn each_event_keeps_a_bus_bounded()
-    ensures start { (stop bit now : ℕ) (b : Bus) → now ≤ stop → Sound b → Bounded stop bit b → Bounded stop bit (start b now).0 }
-    ensures finish { (stop bit now : ℕ) (b : Bus) → now ≤ stop → Sound b → Bounded stop bit b → Bounded stop bit (finish b now).0 }
-    ensures recover { (stop bit now node : ℕ) (b : Bus) → Bounded stop bit b → Bounded stop bit (recover b now node).0 }
+    ensures start { (limit bit ids now : ℕ) (b : Bus) → now + 2000 * bit ≤ limit → 2 ^ 29 ≤ ids → Sound b → Bounded limit bit ids b
+        → Bounded limit bit ids (start b now).0 }
+    ensures finish { (limit bit ids now : ℕ) (b : Bus) → now + 2000 * bit ≤ limit → 2 ^ 29 ≤ ids → Sound b → Bounded limit bit ids b
+        → Bounded limit bit ids (finish b now).0 }
+    ensures recover { (limit bit ids now node : ℕ) (b : Bus) → Bounded limit bit ids b → Bounded limit bit ids (recover b now node).0 }
 
     // A node enters, takes what is due, submits, and leaves.
-    ensures enter { (stop bit node : ℕ) (b : Bus) → Bounded stop bit b → Bounded stop bit (enter b node) }
-    ensures take { (stop bit now node : ℕ) (b : Bus) → Bounded stop bit b → Bounded stop bit (take_inbox b now node).0 }
-    ensures submit { (stop bit now node : ℕ) (b : Bus) (what : Submission) → now ≤ stop → Bounded stop bit b
-        → Bounded stop bit (submit b now node what).0 }
-    ensures leave { (stop bit node : ℕ) (b : Bus) → Bounded stop bit b → Bounded stop bit (leave b node) }
-
-    // What it comes to.
-    ensures by { (stop bit limit : ℕ) (b : Bus) → stop + 2000 * bit ≤ limit → Bounded stop bit b → BusBy limit b }
-    ensures below { (stop bit : ℕ) (b : Bus) → Bounded stop bit b → HeldBelow (2 ^ 29) b }
+    ensures enter { (limit bit ids node : ℕ) (b : Bus) → Bounded limit bit ids b → Bounded limit bit ids (enter b node) }
+    ensures take { (limit bit ids now node : ℕ) (b : Bus) → Bounded limit bit ids b → Bounded limit bit ids (take_inbox b now node).0 }
+    ensures submit { (limit bit ids now node : ℕ) (b : Bus) (what : Submission) → now + 2000 * bit ≤ limit → Bounded limit bit ids b
+        → Bounded limit bit ids (submit b now node what).0 }
+    ensures leave { (limit bit ids node : ℕ) (b : Bus) → Bounded limit bit ids b → Bounded limit bit ids (leave b node) }
 {}
 
 /// The units of a plan set clocks at most 2^62 ticks behind the moment of their session.
@@ -55,12 +53,13 @@ pub fn units_of_a_plan_set_clocks_near<S>()
     ensures near { (answer : S → Call → Reply × S) (phase_of : S → Phase) (p : Plan) → SetsWithin (2 ^ 62) (units_of answer phase_of p) }
 {}
 
-/// The network of a plan opens with bounded buses. An event that isn't after the stop leaves all buses bounded, and
-/// has all clocks tick by a moment little behind its own, where it met them so.
+/// The network of a plan opens with bounded buses. An event leaves all buses bounded where the limit is 2,000 bits behind
+/// it, and has all clocks tick by a moment little behind its own, where it met them so.
 pub fn what_is_bounded_goes_on_so<S>()
-    ensures opens { (p : Plan) (states : List S) → IsPlan p → All (Bounded p.stop (10 ^ 12)) (opening_of p states).buses }
-    ensures buses { (u : Units S) (stop bit : ℕ) (w : World S) (e : Event) → e.moment ≤ stop → Fits w
-        → All (Bounded stop bit) w.buses → All (Bounded stop bit) (world_behind u w e).buses }
+    ensures opens { (p : Plan) (states : List S) (limit ids : ℕ) → IsPlan p
+        → All (Bounded limit (10 ^ 12) ids) (opening_of p states).buses }
+    ensures buses { (u : Units S) (limit bit ids : ℕ) (w : World S) (e : Event) → e.moment + 2000 * bit ≤ limit → 2 ^ 29 ≤ ids → Fits w
+        → All (Bounded limit bit ids) w.buses → All (Bounded limit bit ids) (world_behind u w e).buses }
     ensures clocks { (u : Units S) (limit span : ℕ) (w : World S) (e : Event) → SetsWithin span u → e.moment + span ≤ limit
         → All (λ n. ClocksBy limit n.standing) w.nodes → All (λ n. ClocksBy limit n.standing) (world_behind u w e).nodes }
 {}
@@ -69,7 +68,7 @@ pub fn what_is_bounded_goes_on_so<S>()
 /// start, notices are due, nodes return, clocks tick.
 pub fn moments_stay_small<S>()
     ensures bounded { (u : Units S) (p : Plan) (states : List S) (k : ℕ) → UnitsFit u → IsPlan p
-        → All (Bounded p.stop (10 ^ 12)) (behind (network u p.stop) k (opening_of p states)).buses }
+        → All (Bounded (p.stop + 2000 * 10 ^ 12) (10 ^ 12) (2 ^ 29)) (behind (network u p.stop) k (opening_of p states)).buses }
     ensures by { (u : Units S) (p : Plan) (states : List S) (k : ℕ) → UnitsFit u → SetsWithin (2 ^ 62) u → IsPlan p
         → AllBy (2 ^ 63) (behind (network u p.stop) k (opening_of p states)) }
 {}
@@ -106,4 +105,15 @@ pub fn each_clock_stays<S>()
         → ChangesEach (clocks_in p) (units_of answer phase_of p) }
     ensures along { (u : Units S) (p : Plan) (states : List S) (stop k : ℕ) → ChangesEach (clocks_in p) u
         → All (λ n. HasClocks (clocks_in p n.number) n.standing) (behind (network u stop) k (opening_of p states)).nodes }
+{}
+
+/// A network is within its bounds as its plan opens it. Each event that the budget allows leaves it so, whatever the
+/// units' states are told to be behind it, and so does each run that the budget allows.
+pub fn what_is_within_goes_on_so<S>()
+    ensures opens { (p : Plan) (states : List S) → IsPlan p → IsWithin p states (opening_of p states) }
+    ensures step { (u : Units S) (p : Plan) (states after : List S) (w : World S) (e : Event) → UnitsFit u → SetsWithin (2 ^ 62) u → IsPlan p
+        → IsAsPlanned p states w → w.events < p.events → next_event p.stop w ≡ Some e → IsWithin p states w
+        → IsWithin p after (world_behind u w e) }
+    ensures along { (u : Units S) (p : Plan) (states : List S) (k : ℕ) → UnitsFit u → SetsWithin (2 ^ 62) u → IsPlan p → k ≤ p.events
+        → IsWithin p states (behind (network u p.stop) k (opening_of p states)) }
 {}

@@ -176,41 +176,53 @@ recovered t node b = (omega arith, omega arith)
 more-events : (e m : ℕ) → (e + 1) * m ≡ e * m + m
 more-events e m = omega arith
 
-module _ {S : Type 0} (u : Units S) (w : World S) (h : Fits w) where
-  bus-counted : (t : ℕ) (k : What) (b : Bus) → Among w.buses b → IsCounted (length w.nodes) w.events b → IsCounted (length w.nodes) (w.events + 1) (bus_behind u w t k b)
+module _ {S : Type 0} (u : Units S) (w : World S) (h : Fits w) (most : ℕ) (few : length w.nodes ≤ most) where
+  bus-counted : (t : ℕ) (k : What) (b : Bus) → Among w.buses b → IsCounted most w.events b
+      → IsCounted most (w.events + 1) (bus_behind u w t k b)
   bus-counted t k b a c = go k
     where
       m : ℕ
-      m = 256 * length w.nodes
+      m = 256 * most
 
-      by : (after : Bus) → after.attempts ≤ b.attempts + 1 → after.next ≤ b.next + m → IsCounted (length w.nodes) (w.events + 1) after
+      by : (after : Bus) → after.attempts ≤ b.attempts + 1 → after.next ≤ b.next + m → IsCounted most (w.events + 1) after
       by after i j = let x = c.attempts in let y = c.numbers in let z = more-events w.events m in
           record { attempts = omega (arith, i, x); numbers = omega (arith, j, y, z) }
 
-      either : (q : Bool) (after : Bus) → after.attempts ≤ b.attempts + 1 → after.next ≤ b.next → IsCounted (length w.nodes) (w.events + 1) (if q then after else b)
+      either : (q : Bool) (after : Bus) → after.attempts ≤ b.attempts + 1 → after.next ≤ b.next
+          → IsCounted most (w.events + 1) (if q then after else b)
       either true after i j = by after i (omega (arith, j))
       either false after i j = by b (omega arith) (omega arith)
 
-      go : (k : What) → IsCounted (length w.nodes) (w.events + 1) (bus_behind u w t k b)
-      go (Finish bus) = let r = finish-rises b t in let i = r.attempts in let j = r.next in either (b.setup.number == bus) (finish b t).0 (omega (arith, i)) (omega (arith, j))
+      go : (k : What) → IsCounted most (w.events + 1) (bus_behind u w t k b)
+      go (Finish bus) =
+          let r = finish-rises b t in let i = r.attempts in let j = r.next in
+          either (b.setup.number == bus) (finish b t).0 (omega (arith, i)) (omega (arith, j))
       go (Return bus node) = either (b.setup.number == bus) (recover b t node).0 (recovered t node b).0 (recovered t node b).1
-      go (Start bus) = let r = start-rises b t in let i = r.attempts in let j = r.next in either (b.setup.number == bus) (start b t).0 (omega (arith, i)) (omega (arith, j))
+      go (Start bus) =
+          let r = start-rises b t in let i = r.attempts in let j = r.next in
+          either (b.setup.number == bus) (start b t).0 (omega (arith, i)) (omega (arith, j))
       go Sessions =
           let r = turns-within t (turns u w.buses t w.nodes) b (each-All Sound w.buses b h.sound a).at_most in
           let n = turn-count u w.buses t w.nodes in
           let i = r.attempts in let j = r.next in
-          by (turns_on t (turns u w.buses t w.nodes) b) (omega (arith, i)) (omega (arith, j, n))
+          by (turns_on t (turns u w.buses t w.nodes) b) (omega (arith, i)) (omega (arith, j, n, few))
 
-  node-count : (t : ℕ) (k : What) → length (outcome_of u w t k).nodes ≡ length w.nodes
-  node-count t (Finish bus) = refl
-  node-count t (Return bus node) = refl
-  node-count t (Start bus) = refl
-  node-count t Sessions = length-map w.nodes (node_after u w.buses t)
+-- an event gives out so many numbers at most as this many nodes could be given
+pub counted-within : {S : Type 0} (u : Units S) (w : World S) (e : Event) (most : ℕ) → length w.nodes ≤ most → Fits w
+    → All (IsCounted most w.events) w.buses → All (IsCounted most (w.events + 1)) (world_behind u w e).buses
+counted-within u w e most few h c = each-bus u w e.moment e.what (IsCounted most w.events) (IsCounted most (w.events + 1))
+    (λ b a i. bus-counted u w h most few e.moment e.what b a i) c
+
+node-count : {S : Type 0} (u : Units S) (w : World S) (t : ℕ) (k : What) → length (outcome_of u w t k).nodes ≡ length w.nodes
+node-count u w t (Finish bus) = refl
+node-count u w t (Return bus node) = refl
+node-count u w t (Start bus) = refl
+node-count u w t Sessions = length-map w.nodes (node_after u w.buses t)
 
 pub counted-step : {S : Type 0} (u : Units S) (w : World S) (e : Event) → Fits w → AllCounted w → AllCounted (world_behind u w e)
 counted-step u w e h c =
-    subst (λ n. All (IsCounted n (w.events + 1)) (outcome_of u w e.moment e.what).buses) (sym (node-count u w h e.moment e.what))
-    (each-bus u w e.moment e.what (IsCounted (length w.nodes) w.events) (IsCounted (length w.nodes) (w.events + 1)) (λ b a i. bus-counted u w h e.moment e.what b a i) c)
+    subst (λ n. All (IsCounted n (w.events + 1)) (outcome_of u w e.moment e.what).buses) (sym (node-count u w e.moment e.what))
+    (counted-within u w e (length w.nodes) (omega arith) h c)
 
 pub counted-opens : {S : Type 0} (p : Plan) (states : List S) → AllCounted (opening_of p states)
 counted-opens p states = All-each (IsCounted (length (new_nodes 0 p.nodes states)) 0) (map (λ b. new_bus b.setup b.members) p.buses)

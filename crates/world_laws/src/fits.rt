@@ -1,6 +1,6 @@
 //! What holds of a network in every state that a run comes to.
 
-ghost use Rattle.std.specs.Prelude.{◌≡◌, ◌<◌, ℕ, List, All, Some, true, false};
+ghost use Rattle.std.specs.Prelude.{◌≡◌, ◌<◌, ◌≤◌, ◌+◌, ℕ, List, All, Some, length, true, false};
 ghost use Rattle.run_specs.specs.Run.{behind};
 ghost use Rattle.fmi_states.specs.declared.phase.Phase.{Phase};
 ghost use Rattle.fmi_states.specs.declared.call.Call.{Call};
@@ -13,7 +13,7 @@ ghost use Rattle.world_specs.specs.Network.{network};
 ghost use Rattle.world_specs.specs.Plan.{Plan, IsPlan, opening_of, units_of};
 ghost use Rattle.world_specs.specs.Fits.{UnitsFit, is_live_node, Fits};
 ghost use Rattle.world_laws.specs.Cases.{two_buses};
-ghost use Rattle.world_laws.specs.Words.{AllCounted, AnswersBytes, IsSessions, IsLeft, NothingWaits};
+ghost use Rattle.world_laws.specs.Words.{AllCounted, IsCounted, AnswersBytes, IsSessions, IsLeft, NothingWaits};
 
 /// The units of a plan set clocks behind the moment of their session and emit bytes, where each answers
 /// with bytes.
@@ -61,6 +61,8 @@ pub fn who_is_not_live_holds_nothing<S>()
 pub fn numbers_stay_small<S>()
     ensures opens { (p : Plan) (states : List S) → AllCounted (opening_of p states) }
     ensures step { (u : Units S) (w : World S) (e : Event) → Fits w → AllCounted w → AllCounted (world_behind u w e) }
+    ensures within { (u : Units S) (w : World S) (e : Event) (most : ℕ) → length w.nodes ≤ most → Fits w → All (IsCounted most w.events) w.buses
+        → All (IsCounted most (w.events + 1)) (world_behind u w e).buses }
     ensures along { (u : Units S) (stop events : ℕ) (w : World S) → UnitsFit u → Fits w → AllCounted w
         → AllCounted (behind (network u stop) events w) }
 {}
