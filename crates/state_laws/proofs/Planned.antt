@@ -1,5 +1,5 @@
 -- The buses stay those of the plan with its nodes on them, the nodes keep their numbers, buses and clocks.
-use Rattle.std.proofs.Common.{◌≡◌, ℕ, suc, ◌==◌, Bool, true, false, if◌then◌else◌, List, [], ◌∷◌, map, length, Option, None, All, refl, sym}
+use Rattle.std.proofs.Common.{◌≡◌, ◌≤◌, ℕ, ◌^◌, suc, ◌==◌, Bool, true, false, if◌then◌else◌, List, [], ◌∷◌, map, length, Option, None, All, refl, sym}
 use Rattle.std.proofs.Common.{ap, ◌∙◌, subst}
 use Rattle.fmi_states.specs.declared.phase.Phase.{Phase}
 use Rattle.fmi_states.specs.declared.call.Call.{Call}
@@ -8,7 +8,7 @@ use Rattle.run_specs.specs.Run.{behind}
 use Rattle.session_specs.specs.Outcome.{SessionOut, DueChange, End}
 use Rattle.session_specs.specs.Outcome as session
 use Rattle.session_laws.proofs.Changes.{session_changes}
-use Rattle.bus_specs.specs.Bus.{Bus, Member, new_bus, new_member}
+use Rattle.bus_specs.specs.Bus.{Bus, Member, Setup, new_bus, new_member, data_bit}
 use Rattle.bus_specs.specs.Start.{start}
 use Rattle.bus_specs.specs.Finish.{finish, recover}
 use Rattle.bus_specs.specs.Inbox.{enter, leave, member_after_leaving}
@@ -25,9 +25,9 @@ use Rattle.world_specs.specs.Step.{outcome_of, world_behind}
 use Rattle.world_specs.specs.Network.{network}
 use Rattle.world_specs.specs.Plan.{Plan, BusPlan, description_of, session_in, units_of, new_nodes, opening_of}
 use Rattle.world_laws.proofs.Lists.{map-map, map-same, all-map}
-use Rattle.world_laws.proofs.OneBus.{Kept, bus_behind, buses-behind, turns-kept}
+use Rattle.world_laws.proofs.OneBus.{Kept, bus_behind, buses-behind, each-bus, turns-kept}
 use Rattle.world_laws.proofs.Changed.{number-stays, buses-stay, along}
-use Rattle.state_laws.specs.Words.{IsAsPlanned, clocks_in, ChangesEach, HasClocks}
+use Rattle.state_laws.specs.Words.{IsShort, IsAsPlanned, clocks_in, ChangesEach, HasClocks}
 use Rattle.state_laws.proofs.Opening.{fresh}
 
 -- ---- one bus
@@ -94,6 +94,14 @@ stays-planned {S} u p states w e h = record {
   numbers = each-node u w e.moment (λ (n : Node S). n.number) (λ n. number-stays u w.buses e.moment n) e.what ∙ h.numbers;
   terminals = each-node u w e.moment (λ (n : Node S). n.buses) (λ n. buses-stay u w.buses e.moment n) e.what ∙ h.terminals;
 }
+
+-- so the bits stay as short
+pub short-stays : {S : Type 0} (u : Units S) (w : World S) (e : Event) → All IsShort w.buses → All IsShort (world_behind u w e).buses
+short-stays u w e h = each-bus u w e.moment e.what IsShort IsShort (λ b a i.
+    let s = (bus-same u w e.moment e.what b).setup in record {
+      nominal = subst (λ (x : Setup). x.nominal ≤ 10 ^ 12) (sym s) i.nominal;
+      fast = subst (λ (x : Setup). data_bit (new_bus x []) ≤ 10 ^ 12) (sym s) i.fast;
+    }) h
 
 same-numbers : (ns : List ℕ) → map (λ (m : Member). m.node) (map new_member ns) ≡ ns
 same-numbers [] = refl

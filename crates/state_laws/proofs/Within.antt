@@ -23,18 +23,13 @@ use Rattle.world_laws.proofs.Order.{next-within}
 use Rattle.world_laws.proofs.Opens.{plan-opens}
 use Rattle.world_laws.proofs.Fitting.{fits-step}
 use Rattle.world_laws.proofs.Counted.{counted-within}
-use Rattle.state_laws.specs.Words.{IsDueBy, IdentifiersBelow, ClocksBy, Bounded, SetsWithin, HasBegun, IsNewAtFirst, IsAsPlanned}
+use Rattle.state_laws.specs.Words.{IsDueBy, IdentifiersBelow, ClocksBy, IsShort, Bounded, SetsWithin, HasBegun, IsNewAtFirst, IsAsPlanned}
 use Rattle.state_laws.specs.Within.{latest, counted_nodes, IsInRange, IsWithin}
 use Rattle.state_laws.proofs.Numbers.{Numbered, numbered-behind}
 use Rattle.state_laws.proofs.Opening.{fresh, plan-bits, opens-bounded}
 use Rattle.state_laws.proofs.Moments.{buses-keep, clocks-keep}
 use Rattle.state_laws.proofs.Begun.{first-begins, stays-begun}
 use Rattle.state_laws.proofs.Planned.{stays-planned, opens-planned}
-
--- a bit of a bus lasts at most a second of 10^12 ticks
-pub record IsShort (b : Bus) : Type 0 where
-  pub nominal : b.setup.nominal ≤ 10 ^ 12
-  pub fast : data_bit b ≤ 10 ^ 12
 
 -- the number of a running frame has 64 bits
 abbrev Has64 : Bus → Type 0

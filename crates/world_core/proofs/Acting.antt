@@ -6,6 +6,7 @@ use Rattle.fmi_states.specs.declared.ecu.Ecu.{Ghosts}
 use Rattle.world_specs.specs.Next.{Event, next_event}
 use Rattle.world_laws.specs.Words.{IsCounted}
 use Rattle.world_laws.proofs.Order.{next-within}
+use Rattle.state_laws.specs.Within.{counted_nodes}
 use Rattle.world_core.specs.Courses.{Course, network_of}
 use Rattle.world_core.specs.Kept.{IsKept}
 use Rattle.world_core.specs.Seen.{Seen}
@@ -39,8 +40,8 @@ module _ {E G S : Type 0} (g : Ghosts E G S) (c : Course) (es : List E) (shared 
   early e n = let l = next-within c.plan.stop (network_of c (states_of g es shared)) e n in let s = k.plan.stop in omega (arith, l, s)
 
   pub few : c.events < 2 ^ 62
-  few = let l = k.within in let b = k.plan.events.1 in omega (arith, l, b)
+  few = let l = k.within.events in let b = k.plan.events.1 in omega (arith, l, b)
 
   pub attempts : All (λ (b : Bus). b.attempts < 2 ^ 63) c.buses
   attempts = All-each (λ (b : Bus). b.attempts < 2 ^ 63) c.buses
-      (λ b a. let m = (each-All (IsCounted _ c.events) c.buses b k.counted a).attempts in let l = few in omega (arith, m, l))
+      (λ b a. let m = (each-All (IsCounted counted_nodes c.events) c.buses b k.within.counted a).attempts in let l = few in omega (arith, m, l))

@@ -1,7 +1,6 @@
 -- Turns without the states of the units do the same, and nodes may have them.
 use Rattle.std.proofs.Common.{◌≡◌, ◌<◌, ◌≤◌, ◌+◌, ◌*◌, ◌^◌, ◌⊎◌, ℕ, true, false, if◌then◌else◌, List, [], ◌∷◌, All, fold, length, map, arith, refl, sym, ap, ◌∙◌, inl, inr}
 use Rattle.std.specs.Prelude.{◌==◌}
-use Rattle.std.proofs.Math.Nat.{mul-le-mul_left}
 use Rattle.std.proofs.lemmas.Bool.{both_ways, ne_eqb}
 use Rattle.std.proofs.lemmas.List.{length-map}
 use Rattle.fmi_states.specs.Reply.{AreBytes}
@@ -17,8 +16,9 @@ use Rattle.world_specs.specs.Units.{Units}
 use Rattle.world_specs.specs.World.{Standing, New, Live, Down, Over, World}
 use Rattle.world_specs.specs.Fits.{Fits, UnitsFit}
 use Rattle.world_specs.specs.Sessions.{Turn, is_new, turn_step, turns, turns_step, with_entered}
-use Rattle.world_laws.specs.Words.{AllCounted, IsCounted}
+use Rattle.world_laws.specs.Words.{IsCounted}
 use Rattle.world_laws.proofs.Counted.{turn-count}
+use Rattle.state_laws.specs.Within.{counted_nodes}
 use Rattle.world_laws.proofs.Fitting.{differ, emitted-bytes, may-turn}
 use Rattle.world_laws.proofs.Lists.{all-map}
 use Rattle.world_laws.proofs.Sounded.{Differ}
@@ -66,16 +66,13 @@ module _ {S : Type 0} (u : Units S) (w : World S) (h : Fits w) (fit : UnitsFit u
   pub turns-fit : AreTurns (map bare_of (turns u w.buses t w.nodes))
   turns-fit = turns-from t (turns u w.buses t w.nodes) (differ u w h t w.nodes h.node_numbers) (λ x a. emitted-bytes u w h fit t x a)
 
-  module _ (counted : AllCounted w) (few : length w.nodes ≤ 32) (within : w.events ≤ 10 ^ 8) where
+  module _ (counted : All (IsCounted counted_nodes w.events) w.buses) (few : length w.nodes ≤ 32) (within : w.events ≤ 10 ^ 8) where
     room : (b : Bus) → Among w.buses b → b.next + 256 * length (map (bare_of {S = S}) (turns u w.buses t w.nodes)) < 2 ^ 63
     room b a =
-        let c = each-All (IsCounted (length w.nodes) w.events) w.buses b counted a in
+        let c = each-All (IsCounted counted_nodes w.events) w.buses b counted a in
         let many : length (map (bare_of {S = S}) (turns u w.buses t w.nodes)) ≡ length (turns u w.buses t w.nodes) = length-map (turns u w.buses t w.nodes) bare_of in
         let count = turn-count u w.buses t w.nodes in
-        let low : 256 * length w.nodes ≤ 8192 = omega (arith, few) in
-        let most : w.events * (256 * length w.nodes) ≤ w.events * 8192 = mul-le-mul_left w.events low in
-        let numbers : b.next ≤ w.events * (256 * length w.nodes) = c.numbers in
-        let asked : b.next ≤ w.events * 8192 = omega (arith, most, numbers) in
+        let asked = c.numbers in
         omega (arith, asked, within, many, count, few)
 
     live : (b : Bus) → Among w.buses b → (x : Turn S) → Among (turns u w.buses t w.nodes) x → is_new (standing_if (is_new x.node.standing)) ≡ false → among x.node.buses b.setup.number ≡ true

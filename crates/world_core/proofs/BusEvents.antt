@@ -11,19 +11,22 @@ use Rattle.world_specs.specs.World.{World}
 use Rattle.world_specs.specs.Next.{What, Finish, Return, Sessions, Start, Event, at, what_of, event_of, next_event}
 use Rattle.world_specs.specs.Plan.{units_of}
 use Rattle.world_specs.specs.Step.{world_behind}
-use Rattle.world_specs.specs.Fits.{Fits}
-use Rattle.world_laws.specs.Words.{AllCounted, AnswersBytes}
-use Rattle.world_laws.proofs.Order.{next-among, next-within}
+use Rattle.world_laws.specs.Words.{AnswersBytes}
+use Rattle.world_laws.proofs.Order.{next-among}
 use Rattle.world_laws.proofs.Sources.{Source, OfBus, OfMail, OfNode, source}
 use Rattle.world_laws.proofs.Dues.{node-what}
-use Rattle.world_laws.proofs.Fitting.{fits-step}
-use Rattle.world_laws.proofs.Counted.{counted-step}
 use Rattle.world_laws.proofs.Planned.{units-fit}
+use Rattle.state_laws.specs.Words.{IsShort}
+use Rattle.state_laws.specs.Within.{IsWithin}
+use Rattle.state_laws.proofs.Clocks.{units-near}
+use Rattle.state_laws.proofs.Planned.{short-stays}
+use Rattle.state_laws.proofs.Within.{within-step}
 use Rattle.world_core.specs.Courses.{Course, network_of}
 use Rattle.world_core.specs.Kept.{IsKept}
 use Rattle.world_core.specs.OnBuses.{IsDueOn}
 use Rattle.world_core.specs.Units.{states_of}
 use Rattle.world_core.proofs.BusDues.{IsOwn, due-on}
+use Rattle.world_core.proofs.SessionEvents.{few-nodes}
 
 abbrev IsOnBus : What → Type 0
 IsOnBus (Finish bus) = Unit {0}
@@ -123,10 +126,13 @@ module _ {E G S : Type 0} (g : Ghosts E G S) (replies : AnswersBytes g.answer) (
   kept-on e bs k n l s = record {
     plan = k.plan;
     arranged = record { standings = k.arranged.standings; clocks = k.arranged.clocks; unset = k.arranged.unset };
-    fits = subst Fits (sym s) (fits-step (units_of g.answer g.phase_of c.plan) c.plan.stop (network_of c (states_of g es shared)) e (units-fit g.answer replies g.phase_of c.plan) k.fits n);
-    counted = subst AllCounted (sym s) (counted-step (units_of g.answer g.phase_of c.plan) (network_of c (states_of g es shared)) e k.fits k.counted);
-    within = omega (arith, l);
-    until = next-within c.plan.stop (network_of c (states_of g es shared)) e n;
+    within = subst (IsWithin c.plan (states_of g es shared)) (sym s)
+        (within-step (units_of g.answer g.phase_of c.plan) c.plan (states_of g es shared) (network_of c (states_of g es shared)) e
+        (states_of g es shared) (units-fit g.answer replies g.phase_of c.plan) (units-near g.answer g.phase_of c.plan) k.plan k.short
+        (let few = few-nodes 0 c.plan.nodes c.standings (states_of g es shared) c.clocks in
+        let most = k.plan.some_nodes.1 in omega (arith, few, most)) l n k.within);
+    short = subst (λ (v : World S). All IsShort v.buses) (sym s)
+        (short-stays (units_of g.answer g.phase_of c.plan) (network_of c (states_of g es shared)) e k.short);
     each = k.each;
     phases = k.phases;
     apart = k.apart;

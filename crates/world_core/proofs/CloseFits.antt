@@ -18,7 +18,6 @@ use Rattle.world_specs.specs.Fits.{ClocksFrom, EndsBehind, Fits, IsAttached, IsJ
 use Rattle.world_specs.specs.Network.{close_from, node_closed, standing_by, standing_closed}
 use Rattle.world_specs.specs.Units.{Units}
 use Rattle.world_specs.specs.World.{AreDistinct, Node, Standing, New, Live, Down, Over, World}
-use Rattle.world_laws.specs.Words.{AllCounted, IsCounted}
 use Rattle.world_laws.proofs.Calls.{Call, at_node, leave-call, no-call, then-call, was-member}
 use Rattle.world_laws.proofs.Lists.{all-map, all-same, map-id, map-map, map-same}
 use Rattle.world_core.specs.Closing as code
@@ -123,7 +122,7 @@ module _ {S : Type 0} (u : Units S) where
       go Over = refl
 
   -- whatever holds where a node isn't live
-  all-out : (P : Standing S → Type 0) → ((v : Standing S) → is_live v ≡ false → P v) → (ns : List (Node S)) → All (λ (n : Node S). P n.standing) (map (node_closed u) ns)
+  pub all-out : (P : Standing S → Type 0) → ((v : Standing S) → is_live v ≡ false → P v) → (ns : List (Node S)) → All (λ (n : Node S). P n.standing) (map (node_closed u) ns)
   all-out P h ns = all-map (λ (n : Node S). Unit {0}) (λ (n : Node S). P n.standing) (node_closed u) ns (λ n a k. h (node_closed u n).standing (closed-out n)) (All-each (λ (n : Node S). Unit {0}) ns (λ n a. tt))
 
   out-before : (t : ℕ) (v : Standing S) → is_live v ≡ false → LastBefore t v
@@ -155,7 +154,7 @@ module _ {S : Type 0} (u : Units S) where
 -- ---- the whole
 
 module _ {S : Type 0} (u : Units S) (w : World S) (h : Fits w) where
-  each-left : (P Q : Bus → Type 0) → ((b : Bus) → Among w.buses b → P b → Q (left_on w.nodes b)) → All P w.buses → All Q (fold with_left w.buses w.nodes)
+  pub each-left : (P Q : Bus → Type 0) → ((b : Bus) → Among w.buses b → P b → Q (left_on w.nodes b)) → All P w.buses → All Q (fold with_left w.buses w.nodes)
   each-left P Q k a = all-same Q (map (left_on w.nodes) w.buses) (fold with_left w.buses w.nodes) (sym (left-buses w.nodes w.buses)) (all-map P Q (left_on w.nodes) w.buses k a)
 
   call : (b : Bus) → Call w.now (left_live w.nodes) b (left_on w.nodes b)
@@ -206,12 +205,6 @@ module _ {S : Type 0} (u : Units S) (w : World S) (h : Fits w) where
         ∙ map-same (λ (b : Bus). (left_on w.nodes b).setup.number) (λ (b : Bus). b.setup.number) w.buses (λ b a. ap (λ s. s.number) (call b).setup))) h.bus_numbers;
     node_numbers = subst AreDistinct (sym (map-map (λ (n : Node S). n.number) (node_closed u) w.nodes)) h.node_numbers;
   }
-
-  pub closed-counted : AllCounted w → AllCounted (network_closed u w)
-  closed-counted c =
-      subst (λ k. All (IsCounted k w.events) (fold with_left w.buses w.nodes)) (sym (length-map w.nodes (node_closed u)))
-      (each-left (IsCounted (length w.nodes) w.events) (IsCounted (length w.nodes) w.events)
-      (λ b a i. left-kept (IsCounted (length w.nodes) w.events) (λ b node k. record { attempts = k.attempts; numbers = k.numbers }) w.nodes b i) c)
 
 -- ---- the buses of the code
 

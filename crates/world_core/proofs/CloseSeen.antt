@@ -3,11 +3,11 @@ use Rattle.std.proofs.Common.{◌≡◌, ◌*◌, Bool, false, List, fold, lengt
 use Rattle.std.proofs.lemmas.List.{length-map}
 use Rattle.fmi_states.specs.declared.ecu.Ecu.{Ghosts}
 use Rattle.bus_specs.specs.Bus.{Bus}
-use Rattle.world_specs.specs.Fits.{Fits}
 use Rattle.world_specs.specs.Network.{node_closed}
-use Rattle.world_specs.specs.Plan.{Plan, units_of}
+use Rattle.world_specs.specs.Plan.{Plan, opening_of, units_of}
+use Rattle.world_specs.specs.Units.{Units}
 use Rattle.world_specs.specs.World.{World}
-use Rattle.world_laws.specs.Words.{AllCounted}
+use Rattle.state_laws.specs.Within.{IsWithin}
 use Rattle.world_core.specs.Closing.{left_from}
 use Rattle.world_core.specs.Courses.{Course, network_of, nodes_from}
 use Rattle.world_core.specs.Held.{IsHeld}
@@ -17,7 +17,8 @@ use Rattle.world_core.specs.Seen.{Seen}
 use Rattle.world_core.specs.Units.{states_of}
 use Rattle.world_core.specs.Walked.{Stays}
 use Rattle.world_core.proofs.Acting.{seen}
-use Rattle.world_core.proofs.CloseFits.{closed-counted, closed-fits, left-nodes}
+use Rattle.world_core.proofs.CloseFits.{left-nodes}
+use Rattle.world_core.proofs.CloseWithin.{closed-short, closed-within, opening-closed, units-stay}
 
 module _ {E G S : Type 0} (g : Ghosts E G S) (c : Course) (es : List E) (shared : G) (kept : IsKept g c es shared) (left after : Course) (es' : List E) (shared' : G)
     (leaves : left ≡ record c { buses = left_from 0 c.standings c.buses }) (stays : Stays left after)
@@ -48,8 +49,24 @@ module _ {E G S : Type 0} (g : Ghosts E G S) (c : Course) (es : List E) (shared 
   plan-is : after.plan ≡ c.plan
   plan-is = ap (λ (x : Course). x.plan) course-is
 
-  pub kept-closed : IsHeld g after es' shared' → IsKept g after es' shared'
-  kept-closed h =
+  abbrev AreClosed : Type 0
+  AreClosed = states_of g es' shared' ≡ units_closed (units_of g.answer g.phase_of left.plan) (network_of left (states_of g es shared)).nodes (states_of g es shared)
+
+  -- where all nodes are new nothing is closed
+  opened : AreClosed → network_of c (states_of g es shared) ≡ opening_of c.plan (states_of g es shared)
+      → network_closed (units_of g.answer g.phase_of c.plan) (network_of c (states_of g es shared)) ≡ opening_of c.plan (states_of g es' shared')
+  opened units same =
+      let us : Units S = units_of g.answer g.phase_of c.plan in
+      let ss : List S = states_of g es shared in
+      let stay : states_of g es' shared' ≡ ss =
+          units
+          ∙ ap (λ (x : Course). units_closed (units_of g.answer g.phase_of x.plan) (network_of x ss).nodes ss) leaves
+          ∙ ap (λ (v : World S). units_closed us v.nodes ss) same
+          ∙ units-stay us 0 c.plan.nodes ss (length-map es (λ x. g.state x shared) ∙ kept.each) in
+      ap (network_closed us) same ∙ opening-closed us c.plan ss ∙ ap (opening_of c.plan) (sym stay)
+
+  pub kept-closed : AreClosed → IsHeld g after es' shared' → IsKept g after es' shared'
+  kept-closed units h =
       let arranged = h.arranged in
       subst (λ (x : Course). IsKept g x es' shared') (sym course-is) (record {
         plan = kept.plan;
@@ -58,10 +75,10 @@ module _ {E G S : Type 0} (g : Ghosts E G S) (c : Course) (es : List E) (shared 
           clocks = arranged.clocks ∙ ap (λ (p : Plan). length p.nodes * 8) plan-is;
           unset = subst (λ (p : Plan). AreUnset p.nodes after.standings after.clocks) plan-is arranged.unset;
         };
-        fits = subst Fits (sym network-behind) (closed-fits (units_of g.answer g.phase_of c.plan) (network_of c (states_of g es shared)) kept.fits);
-        counted = subst AllCounted (sym network-behind) (closed-counted (units_of g.answer g.phase_of c.plan) (network_of c (states_of g es shared)) kept.fits kept.counted);
-        within = kept.within;
-        until = kept.until;
+        within = subst (IsWithin c.plan (states_of g es' shared')) (sym network-behind)
+            (closed-within (units_of g.answer g.phase_of c.plan) (network_of c (states_of g es shared)) kept.within.fits c.plan
+            (states_of g es shared) (states_of g es' shared') kept.short kept.within (opened units));
+        short = closed-short (units_of g.answer g.phase_of c.plan) (network_of c (states_of g es shared)) kept.within.fits kept.short;
         each = h.each ∙ ap (λ (p : Plan). length p.nodes) plan-is;
         phases = h.phases;
         apart = h.apart;

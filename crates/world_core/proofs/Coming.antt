@@ -142,7 +142,7 @@ module _ {E G S : Type 0} (g : Ghosts E G S) (c : Course) (es : List E) (shared 
       by-member b a m i (inl k) = mail-enabled (network_of c (states_of g es shared)) b m a i k
       by-member b a m i (inr k) =
           let r = notice-by c.now m k in
-          let l = notices-from c.now m (each-All (NoticesFrom c.now) b.members m (each-All (InTime c.now) c.buses b kept.fits.in_time a).notices i) r.moment r.among in
+          let l = notices-from c.now m (each-All (NoticesFrom c.now) b.members m (each-All (InTime c.now) c.buses b kept.within.fits.in_time a).notices i) r.moment r.among in
           let e : r.moment ≡ c.now = omega (arith, l, r.due) in
           subst (λ u. Among (enabled (network_of c (states_of g es shared))) (at Sessions u)) e
           (due-enabled (network_of c (states_of g es shared)) b (due.at due.Notices r.moment) a (notice-due b c.now m i r.moment r.among))
@@ -189,7 +189,7 @@ module _ {E G S : Type 0} (g : Ghosts E G S) (c : Course) (es : List E) (shared 
   mail-calls b a m i h = by-life m.live refl
     where
       member : SoundMember b.setup b.running m
-      member = each-All (SoundMember b.setup b.running) b.members m (each-All Sound c.buses b kept.fits.sound a).members i
+      member = each-All (SoundMember b.setup b.running) b.members m (each-All Sound c.buses b kept.within.fits.sound a).members i
 
       by-node : (n : Node S) × Among nodes n × (((n.number == m.node) && is_live n.standing) ≡ true) → any_calls c.buses c.now 0 c.standings ≡ true
       by-node r =
@@ -202,7 +202,7 @@ module _ {E G S : Type 0} (g : Ghosts E G S) (c : Course) (es : List E) (shared 
       by-life : (q : Bool) → m.live ≡ q → any_calls c.buses c.now 0 c.standings ≡ true
       by-life false e = absurd (both_ways (is_some m.mail) (ap is_some (member.absent e).mail) h)
       by-life true e =
-          let joined = each-All (λ m. m.live ≡ is_live_node nodes m.node) b.members m (each-All (IsJoined nodes) c.buses b kept.fits.joined a) i in
+          let joined = each-All (λ m. m.live ≡ is_live_node nodes m.node) b.members m (each-All (IsJoined nodes) c.buses b kept.within.fits.joined a) i in
           by-node (any_to (λ n. (n.number == m.node) && is_live n.standing) nodes (sym joined ∙ e))
 
   -- what a node calls for isn't before the first call
@@ -213,7 +213,7 @@ module _ {E G S : Type 0} (g : Ghosts E G S) (c : Course) (es : List E) (shared 
       sessions = node-what c.now n.standing f k
 
       late : c.now ≤ f.moment
-      late = not-late c.now n.standing (each-All (λ n. ClocksFrom c.now n.standing) nodes n kept.fits.clocks a) f k
+      late = not-late c.now n.standing (each-All (λ n. ClocksFrom c.now n.standing) nodes n kept.within.fits.clocks a) f k
 
       at-tick : Among c.clocks (Some f.moment) → (q : Bool) → any_calls c.buses c.now 0 c.standings ≡ q → Beaten f (option_map (at Sessions) (first_call c))
       at-tick h true e = called-now e f sessions late
@@ -231,7 +231,7 @@ module _ {E G S : Type 0} (g : Ghosts E G S) (c : Course) (es : List E) (shared 
   pub first-next : up_to c.plan.stop (first_event c) ≡ next_event c.plan.stop (network_of c (states_of g es shared))
   first-next = next-is-first c.plan.stop (network_of c (states_of g es shared)) (first_event c)
       (joined (Among (flat_map due-events c.buses)) (Among (enabled (network_of c (states_of g es shared)))) (first_due c.now c.buses) (option_map (at Sessions) (first_call c))
-      (of-lists due-events (first_on c.now) c.buses (λ b a. on-bus c.now b (each-All Sound c.buses b kept.fits.sound a)))
+      (of-lists due-events (first_on c.now) c.buses (λ b a. on-bus c.now b (each-All Sound c.buses b kept.within.fits.sound a)))
       from-bus from-call all)
     where
       from-bus : (e : Event) → Among (flat_map due-events c.buses) e → Among (enabled (network_of c (states_of g es shared))) e

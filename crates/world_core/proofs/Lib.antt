@@ -29,6 +29,7 @@ pub mod Acting
 pub mod Turned
 pub mod SessionEvents
 pub mod CloseFits
+pub mod CloseWithin
 pub mod Shutting
 pub mod CloseWalk
 pub mod CloseSeen

@@ -14,10 +14,11 @@ use Rattle.world_specs.specs.World.{World, Node}
 use Rattle.world_specs.specs.World as model
 use Rattle.world_specs.specs.Plan.{BusPlan, NodePlan, Plan, IsDataBitTime, IsBusPlan, AllFrom, IsPlan, new_nodes, opening_of}
 use Rattle.world_specs.specs.Fits.{Fits}
-use Rattle.world_laws.specs.Words.{AllCounted}
 use Rattle.world_laws.proofs.Lists.{map-map, map-same, map-id}
 use Rattle.world_laws.proofs.Opens.{plan-opens}
-use Rattle.world_laws.proofs.Counted.{counted-opens}
+use Rattle.state_laws.specs.Within.{IsWithin}
+use Rattle.state_laws.proofs.Planned.{opens-planned}
+use Rattle.state_laws.proofs.Within.{within-opens, planned-short}
 use Rattle.world_core.specs.declared.standing.Standing.{Standing}
 use Rattle.world_core.specs.declared.standing.Standing.TheVariants.{New}
 use Rattle.world_core.specs.Setups.{bus_plan_of, bus_of}
@@ -140,10 +141,8 @@ module _ {E G S : Type 0} (g : Ghosts E G S) (shared : G) where
           clocks = length-replicate (length p.nodes * 8) None;
           unset = all-unset p.nodes;
         };
-        fits = subst Fits (sym same) (plan-opens p ok (states_of g es shared));
-        counted = subst AllCounted (sym same) (counted-opens p (states_of g es shared));
-        within = omega arith;
-        until = omega arith;
+        within = subst (IsWithin p (states_of g es shared)) (sym same) (within-opens p (states_of g es shared) ok);
+        short = planned-short p ok (states_of g es shared) (opening_of p (states_of g es shared)) (opens-planned p (states_of g es shared));
         each = each;
         phases = fresh-pairs es (length p.nodes) each (λ e a. each-All (λ e. g.phase_of (g.state e shared) ≡ Fresh) es e fresh a);
         apart = apart;

@@ -5,18 +5,21 @@ use Rattle.std.proofs.lemmas.List.Elements.{All-cons, All-head, All-nil, All-tai
 use Rattle.fmi_states.specs.declared.ecu.Ecu.{Ghosts}
 use Rattle.log_specs.specs.Line.{Line}
 use Rattle.bus_specs.specs.Bus.{Bus}
-use Rattle.world_specs.specs.Fits.{Fits, LastBy, UnitsFit}
+use Rattle.world_specs.specs.Fits.{LastBy, UnitsFit}
 use Rattle.world_specs.specs.Next.{Event, Sessions, at, next_event}
 use Rattle.world_specs.specs.Plan.{NodePlan, Plan, units_of}
 use Rattle.world_specs.specs.Sessions.{node_after, turns, turns_step}
 use Rattle.world_specs.specs.Step.{event_lines, world_behind}
-use Rattle.world_specs.specs.World.{Node}
-use Rattle.world_laws.specs.Words.{AllCounted, AnswersBytes}
-use Rattle.world_laws.proofs.Counted.{counted-step}
-use Rattle.world_laws.proofs.Fitting.{fits-from, fits-step}
-use Rattle.world_laws.proofs.Order.{next-within}
+use Rattle.world_specs.specs.World.{Node, World}
+use Rattle.world_laws.specs.Words.{AnswersBytes}
+use Rattle.world_laws.proofs.Fitting.{fits-from}
 use Rattle.world_laws.proofs.Planned.{units-fit}
 use Rattle.world_laws.proofs.Timed.{forward, to-enabled}
+use Rattle.state_laws.specs.Words.{IsShort}
+use Rattle.state_laws.specs.Within.{IsWithin}
+use Rattle.state_laws.proofs.Clocks.{units-near}
+use Rattle.state_laws.proofs.Planned.{short-stays}
+use Rattle.state_laws.proofs.Within.{within-step}
 use Rattle.world_core.specs.Bare.{AreTurns, IsExpected}
 use Rattle.world_core.specs.Courses.{Course, network_of, nodes_from, standing_of}
 use Rattle.world_core.specs.Held.{IsHeld, LastIsBy, LastsAreBy}
@@ -64,11 +67,11 @@ module _ {E G S : Type 0} (g : Ghosts E G S) (c : Course) (es : List E) (shared 
   module _ (e : Event) (next : next_event c.plan.stop (network_of c (states_of g es shared)) ≡ Some e) where
     pub not-before : c.now ≤ e.moment
     not-before = forward c.plan.stop (network_of c (states_of g es shared)) e
-        (to-enabled (network_of c (states_of g es shared)) (fits-from (network_of c (states_of g es shared)) kept.fits)) next
+        (to-enabled (network_of c (states_of g es shared)) (fits-from (network_of c (states_of g es shared)) kept.within.fits)) next
 
     pub lasts-by : LastsAreBy e.moment c.standings
     lasts-by = lasts-of c.now e.moment 0 not-before c.plan.nodes c.standings (states_of g es shared) c.clocks kept.arranged.standings
-        (length-map es (λ x. g.state x shared) ∙ kept.each) kept.fits.lasts
+        (length-map es (λ x. g.state x shared) ∙ kept.each) kept.within.fits.lasts
 
 -- ---- the turns of the code are those of the definitions
 
@@ -78,13 +81,13 @@ module _ {E G S : Type 0} (g : Ghosts E G S) (replies : AnswersBytes g.answer) (
   fit = units-fit g.answer replies g.phase_of c.plan
 
   turns-there : AreTurns (map (seen c.plan.nodes) xs)
-  turns-there = subst AreTurns (sym same) (turns-fit (units_of g.answer g.phase_of c.plan) (network_of c (states_of g es shared)) kept.fits fit t)
+  turns-there = subst AreTurns (sym same) (turns-fit (units_of g.answer g.phase_of c.plan) (network_of c (states_of g es shared)) kept.within.fits fit t)
 
   turns-expected : All (IsExpected (map (seen c.plan.nodes) xs)) c.buses
   turns-expected = subst (λ ys. All (IsExpected ys) c.buses) (sym same)
-      (all-expected (units_of g.answer g.phase_of c.plan) (network_of c (states_of g es shared)) kept.fits fit t kept.counted
+      (all-expected (units_of g.answer g.phase_of c.plan) (network_of c (states_of g es shared)) kept.within.fits fit t kept.within.counted
       (let l = few-nodes 0 c.plan.nodes c.standings (states_of g es shared) c.clocks in let m = kept.plan.some_nodes.1 in omega (arith, l, m))
-      (let l = kept.within in let m = kept.plan.events.1 in omega (arith, l, m)))
+      (let l = kept.within.events in let m = kept.plan.events.1 in omega (arith, l, m)))
 
   -- and so they are of the course behind the sessions
   module _ (after : Course) (stays : Stays c after) where
@@ -150,11 +153,14 @@ module _ {E G S : Type 0} (g : Ghosts E G S) (replies : AnswersBytes g.answer) (
           clocks = arranged.clocks ∙ ap (λ (p : Plan). length p.nodes * 8) same-plan;
           unset = subst (λ (p : Plan). AreUnset p.nodes after.standings after.clocks) same-plan arranged.unset;
         };
-        fits = subst Fits (sym network-behind) (fits-step (units_of g.answer g.phase_of c.plan) c.plan.stop (network_of c (states_of g es shared)) (at Sessions t)
-            (units-fit g.answer replies g.phase_of c.plan) kept.fits n);
-        counted = subst AllCounted (sym network-behind) (counted-step (units_of g.answer g.phase_of c.plan) (network_of c (states_of g es shared)) (at Sessions t) kept.fits kept.counted);
-        within = omega (arith, l);
-        until = next-within c.plan.stop (network_of c (states_of g es shared)) (at Sessions t) n;
+        within = subst (IsWithin c.plan (states_of g es' shared')) (sym network-behind)
+            (within-step (units_of g.answer g.phase_of c.plan) c.plan (states_of g es shared) (network_of c (states_of g es shared))
+            (at Sessions t) (states_of g es' shared') (units-fit g.answer replies g.phase_of c.plan) (units-near g.answer g.phase_of c.plan)
+            kept.plan kept.short
+            (let few = few-nodes 0 c.plan.nodes c.standings (states_of g es shared) c.clocks in
+            let most = kept.plan.some_nodes.1 in omega (arith, few, most)) l n kept.within);
+        short = subst (λ (v : World S). All IsShort v.buses) (sym network-behind)
+            (short-stays (units_of g.answer g.phase_of c.plan) (network_of c (states_of g es shared)) (at Sessions t) kept.short);
         each = h.each ∙ ap (λ (p : Plan). length p.nodes) same-plan;
         phases = h.phases;
         apart = h.apart;

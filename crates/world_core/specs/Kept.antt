@@ -4,8 +4,8 @@ use Rattle.fmi_states.specs.declared.ecu.Ecu.{Ghosts}
 use Rattle.fmi_states.specs.declared.phase.Phase.{Phase}
 use Rattle.fmi_states.specs.declared.phase.Phase.TheVariants.{Fresh, Step}
 use Rattle.world_specs.specs.Plan.{NodePlan, IsPlan}
-use Rattle.world_specs.specs.Fits.{Fits}
-use Rattle.world_laws.specs.Words.{AllCounted}
+use Rattle.state_laws.specs.Words.{IsShort}
+use Rattle.state_laws.specs.Within.{IsWithin}
 use Rattle.world_core.specs.Courses.{Course, network_of}
 use Rattle.world_core.specs.Units.{AreApart, states_of}
 use Rattle.world_core.specs.declared.standing.Standing.{Standing}
@@ -46,10 +46,8 @@ pub record IsArranged (c : Course) : Type 0 where
 pub record IsKept {E G S : Type 0} (g : Ghosts E G S) (c : Course) (es : List E) (shared : G) : Type 0 where
   pub plan : IsPlan c.plan
   pub arranged : IsArranged c
-  pub fits : Fits (network_of c (states_of g es shared))
-  pub counted : AllCounted (network_of c (states_of g es shared))
-  pub within : c.events ≤ c.plan.events
-  pub until : c.now ≤ c.plan.stop
+  pub within : IsWithin c.plan (states_of g es shared) (network_of c (states_of g es shared))
+  pub short : All IsShort c.buses
   pub each : length es ≡ length c.plan.nodes
   pub phases : Pairwise (λ t e. IsInPhase t (g.phase_of (g.state e shared))) c.standings es
   pub apart : AreApart g es shared

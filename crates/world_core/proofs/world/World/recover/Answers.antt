@@ -15,7 +15,7 @@ recover-requires-clause-due g c =
     let is = c.self.view_is in
     let kept = c.self.invariant (goes-on g.E.Ecu c.self.inside.course c.self.inside.ecus.items c.self.inside.shared c.self.inside.failed c.args.self.now is c.requires.goes_on) in
     let next = on-course g.E.Ecu c.self.inside.course c.self.inside.ecus.items c.self.inside.shared c.self.inside.failed c.args.self.now is (at (Return c.args.bus c.args.node) c.args.moment) c.requires.next in
-    return-due c.self.inside.course.plan.stop (network_of c.self.inside.course (states_of g.E.Ecu c.self.inside.ecus.items c.self.inside.shared)) kept.fits.sound c.args.bus c.args.node c.args.moment next
+    return-due c.self.inside.course.plan.stop (network_of c.self.inside.course (states_of g.E.Ecu c.self.inside.ecus.items c.self.inside.shared)) kept.within.fits.sound c.args.bus c.args.node c.args.moment next
 
 pub invariant_of-self-2 : goal.invariant_of-self-2
 invariant_of-self-2 g c = λ e.

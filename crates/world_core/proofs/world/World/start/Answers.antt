@@ -15,7 +15,7 @@ start-requires-clause-due g c =
     let is = c.self.view_is in
     let kept = c.self.invariant (goes-on g.E.Ecu c.self.inside.course c.self.inside.ecus.items c.self.inside.shared c.self.inside.failed c.args.self.now is c.requires.goes_on) in
     let next = on-course g.E.Ecu c.self.inside.course c.self.inside.ecus.items c.self.inside.shared c.self.inside.failed c.args.self.now is (at (Start c.args.bus) c.args.moment) c.requires.next in
-    start-due c.self.inside.course.plan.stop (network_of c.self.inside.course (states_of g.E.Ecu c.self.inside.ecus.items c.self.inside.shared)) kept.fits.sound c.args.bus c.args.moment next
+    start-due c.self.inside.course.plan.stop (network_of c.self.inside.course (states_of g.E.Ecu c.self.inside.ecus.items c.self.inside.shared)) kept.within.fits.sound c.args.bus c.args.moment next
 
 pub start-requires-clause-moment : goal.start-requires-clause-moment
 start-requires-clause-moment g c =
