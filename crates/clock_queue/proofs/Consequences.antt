@@ -1,5 +1,6 @@
 -- What follows for a reader of a queue: no entry comes before the least, and a set keeps the better.
-use Rattle.std.proofs.Common.{◌≡◌, ◌≢◌, ◌⊎◌, ◌<◌, ◌≤◌, ◌+◌, ℕ, zero, suc, Bool, true, false, cond, List, [], ◌∷◌, length, set, Option, Some, None, sym, refl, ap, ◌∙◌, subst, inl, inr, arith, get_or-set_same, get_or-set_other}
+use Rattle.std.proofs.Common.{◌≡◌, ◌≢◌, ◌⊎◌, ◌<◌, ◌≤◌, ◌+◌, ℕ, zero, suc, Bool, true, false, cond, List, [], ◌∷◌, length, set, Option, Some}
+use Rattle.std.proofs.Common.{None, sym, refl, ap, ◌∙◌, subst, inl, inr, arith, get_or-set_same, get_or-set_other}
 use Rattle.std.proofs.lemmas.Bool.{cases_eq, cases_lt}
 use Rattle.std.specs.List.{Contains, slice_index}
 use Rattle.std.specs.List.Sorted.{IsStrictlyIncreasing}
@@ -55,7 +56,8 @@ module _ {D : Type 0} (rank : D → ℕ) (dues : List (Option D)) where
       where
         go : (y.number ≡ x.number) ⊎ (y.number ≡ x.number → ⊥) → (y ≡ x) ⊎ ((y.number ≢ x.number) × (due_of dues y.number ≡ Some y.due))
         go (inl s) =
-            let k : Some y.due ≡ Some x.due = sym e ∙ (ap (λ n. due_of (set dues x.number (Some x.due)) n) s ∙ get_or-set_same dues x.number (Some x.due) None within) in
+            let k : Some y.due ≡ Some x.due = sym e ∙ (ap (λ n. due_of (set dues x.number (Some x.due)) n) s
+            ∙ get_or-set_same dues x.number (Some x.due) None within) in
             inl (pending_same y x s cc)
         go (inr n) = inr (n, sym (get_or-set_other dues x.number y.number (Some x.due) None n) ∙ e)
 
@@ -77,7 +79,8 @@ module _ {D : Type 0} (rank : D → ℕ) (dues : List (Option D)) where
     first_set : least_pending rank dues ≡ None → least_pending rank (set dues x.number (Some x.due)) ≡ Some x
     first_set e = finds x new_set over
       where
-        over : (y : Pending D) → (y ≡ x) ⊎ ((y.number ≢ x.number) × (due_of dues y.number ≡ Some y.due)) → (y ≡ x) ⊎ (precedes rank x y ≡ true)
+        over : (y : Pending D) → (y ≡ x) ⊎ ((y.number ≢ x.number) × (due_of dues y.number ≡ Some y.due))
+            → (y ≡ x) ⊎ (precedes rank x y ≡ true)
         over y (inl s) = inl s
         over y (inr d) = absurd (let k = none_set e y.number in let l = d.1 in cc)
 
@@ -106,11 +109,13 @@ module _ {D : Type 0} (rank : D → ℕ) (dues : List (Option D)) where
         past t y (inl s) = subst (λ w. precedes rank x w ≡ true) (sym s) t
         past t y (inr b) = comes_through (rank x.due) (rank z.due) (rank y.due) x.number z.number y.number t b
 
-        by_new : precedes rank x z ≡ true → (y : Pending D) → (y ≡ x) ⊎ ((y.number ≢ x.number) × (due_of dues y.number ≡ Some y.due)) → (y ≡ x) ⊎ (precedes rank x y ≡ true)
+        by_new : precedes rank x z ≡ true → (y : Pending D) → (y ≡ x) ⊎ ((y.number ≢ x.number) × (due_of dues y.number ≡ Some y.due))
+            → (y ≡ x) ⊎ (precedes rank x y ≡ true)
         by_new t y (inl s) = inl s
         by_new t y (inr d) = inr (past t y (old_over z e y d.1))
 
-        by_old : precedes rank x z ≡ false → (y : Pending D) → (y ≡ x) ⊎ ((y.number ≢ x.number) × (due_of dues y.number ≡ Some y.due)) → (y ≡ z) ⊎ (precedes rank z y ≡ true)
+        by_old : precedes rank x z ≡ false → (y : Pending D) → (y ≡ x) ⊎ ((y.number ≢ x.number) × (due_of dues y.number ≡ Some y.due))
+            → (y ≡ z) ⊎ (precedes rank z y ≡ true)
         by_old t y (inl s) = inr (subst (λ w. precedes rank z w ≡ true) (sym s) (over_test z x t (λ k. apart (sym k))))
         by_old t y (inr d) = old_over z e y d.1
 

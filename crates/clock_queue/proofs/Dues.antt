@@ -1,9 +1,10 @@
 -- What the definitions of a queue say entry by entry.
-use Rattle.std.proofs.Common.{◌≡◌, ◌≢◌, ◌<◌, ◌≤◌, ◌+◌, ℕ, zero, suc, Bool, true, false, cond, eqb, List, [], ◌∷◌, length, set, map, Option, Some, None, IsSome, sym, refl, ap, ◌∙◌, subst, inl, inr, arith, length-set, get_or-set_other}
+use Rattle.std.proofs.Common.{◌≡◌, ◌≢◌, ◌<◌, ◌≤◌, ◌+◌, ℕ, zero, suc, Bool, true, false, cond, eqb, List, [], ◌∷◌, length, set, map, Option}
+use Rattle.std.proofs.Common.{Some, None, IsSome, sym, refl, ap, ◌∙◌, subst, inl, inr, arith}
 use Rattle.std.proofs.lemmas.Bool.Decides.{nat_tests}
 use Rattle.std.specs.List.{filter}
 use Rattle.clock_queue.specs.Dues.{Pending, pending, pending_from, due_of, precedes, entries_at, due_unless, dues_behind}
-use Rattle.clock_queue.specs.Order.{Among, cleared}
+use Rattle.clock_queue.specs.Order.{Among}
 use Rattle.clock_queue.proofs.Members.{in_filter, filter_has, IsRising}
 use Rattle.clock_queue.proofs.Comes.{comes_itself, comes_through}
 use Rattle.clock_queue.proofs.Best.{IsStrict}
@@ -86,7 +87,8 @@ module _ {D : Type 0} where
   rising p first (Some due ∷ dues) = go (p (record { number = first; due = due })) (rising p (suc first) dues)
     where
       go : (b : Bool) → IsRising (map (λ (x : Pending D). x.number) (filter p (pending_from (suc first) dues)))
-          → IsRising (map (λ (x : Pending D). x.number) (cond b (record { number = first; due = due } ∷ filter p (pending_from (suc first) dues)) (filter p (pending_from (suc first) dues))))
+          → IsRising (map (λ (x : Pending D). x.number) (cond b
+          (record { number = first; due = due } ∷ filter p (pending_from (suc first) dues)) (filter p (pending_from (suc first) dues))))
       go true r = (λ k a. let h = above p (suc first) dues k a in omega arith, r)
       go false r = r
 
@@ -162,35 +164,8 @@ module _ {D : Type 0} (rank : D → ℕ) where
         → due_of (dues_behind rank moment dues) entry ≡ Some due
     behind_kept dues entry due e n = due_behind dues entry ∙ (ap (λ o. due_unless rank moment o) e ∙ other_kept due n)
 
--- what clearing several entries leaves
 module _ {D : Type 0} where
-  pub length_cleared : (xs : List ℕ) (dues : List (Option D)) → length (cleared xs dues) ≡ length dues
-  length_cleared [] dues = refl
-  length_cleared (x ∷ xs) dues = length_cleared xs (set dues x None) ∙ length-set dues x None
-
-  past : (dues : List (Option D)) (entry x : ℕ) → due_of dues entry ≡ None → due_of (set dues x None) entry ≡ None
-  past [] entry x e = e
-  past (o ∷ dues) zero zero e = refl
-  past (o ∷ dues) zero (suc x) e = e
-  past (o ∷ dues) (suc entry) zero e = e
-  past (o ∷ dues) (suc entry) (suc x) e = past dues entry x e
-
-  stays_cleared : (xs : List ℕ) (dues : List (Option D)) (entry : ℕ) → due_of dues entry ≡ None → due_of (cleared xs dues) entry ≡ None
-  stays_cleared [] dues entry e = e
-  stays_cleared (x ∷ xs) dues entry e = stays_cleared xs (set dues x None) entry (past dues entry x e)
-
   pub clears_at : (dues : List (Option D)) (x : ℕ) → due_of (set dues x None) x ≡ None
   clears_at [] x = refl
   clears_at (o ∷ dues) zero = refl
   clears_at (o ∷ dues) (suc x) = clears_at dues x
-
-  pub cleared_at : (xs : List ℕ) (dues : List (Option D)) (entry : ℕ) → Among xs entry → due_of (cleared xs dues) entry ≡ None
-  cleared_at [] dues entry a = absurd a
-  cleared_at (x ∷ xs) dues entry (inl s) =
-      stays_cleared xs (set dues x None) entry (subst (λ n. due_of (set dues x None) n ≡ None) (sym s) (clears_at dues x))
-  cleared_at (x ∷ xs) dues entry (inr a) = cleared_at xs (set dues x None) entry a
-
-  pub others_cleared : (xs : List ℕ) (dues : List (Option D)) (entry : ℕ) → (Among xs entry → ⊥) → due_of (cleared xs dues) entry ≡ due_of dues entry
-  others_cleared [] dues entry n = refl
-  others_cleared (x ∷ xs) dues entry n =
-      others_cleared xs (set dues x None) entry (λ a. n (inr a)) ∙ get_or-set_other dues x entry None None (λ e. n (inl e))

@@ -1,272 +1,232 @@
--- A queue keeps its entries in order: what a set, a clear and a taking leave, and what stands in front.
-use Rattle.std.proofs.Common.{◌≡◌, ◌≢◌, ◌⊎◌, ◌<◌, ◌≤◌, ℕ, zero, suc, Bool, true, false, not, eqb, List, [], ◌∷◌, length, set, replicate, take, drop, Option, Some, None, IsSome, sym, refl, ap, ◌∙◌, subst, inl, inr, arith, length-set, get_or-set_same, get_or-set_other}
-use Rattle.std.proofs.lemmas.List.{length-map, length-replicate}
-use Rattle.std.proofs.lemmas.Bool.{cases_eq}
-use Rattle.std.proofs.lemmas.Bool.Decides.{nat_tests}
-use Rattle.std.specs.List.{filter, slice_get}
+-- A queue keeps its entries: what a set and a clear leave, and what stands on top.
+use Rattle.std.proofs.Common.{◌≡◌, ◌≢◌, ◌⊎◌, ◌<◌, ◌≤◌, ◌+◌, ℕ, zero, suc, true, false, List, length, slice_index, set, replicate, Option}
+use Rattle.std.proofs.Common.{Some, None, IsSome, sym, refl, ap, ◌∙◌, subst, inl, inr, arith, length-set, get_or-set_same, get_or-set_other}
+use Rattle.std.proofs.lemmas.Bool.{cases_eq, cases_lt}
+use Rattle.std.proofs.lemmas.List.{length-replicate}
+use Rattle.std.specs.List.{SwappedAt}
 use Rattle.std.specs.Option.{option_map_or}
-use Rattle.clock_queue.specs.Dues.{Pending, pending, due_of, least_pending, precedes, entries_at, due_unless, dues_behind, NoneBefore}
-use Rattle.clock_queue.specs.Order.{Among, IsKept, IsOrdered, inserted, without, rank_of, front_at, cleared}
-use Rattle.clock_queue.proofs.Members.{in_filter, filter_has, same_rising, length_below, differs, IsDistinct}
-use Rattle.clock_queue.proofs.Orders.{ordered_filter, in_inserted, inserted_has, ordered_inserted, distinct_ordered, rising_ordered, take_front, drop_front, ordered_alike}
+use Rattle.clock_queue.specs.Dues.{Pending, pending, due_of, least_pending, precedes}
+use Rattle.clock_queue.specs.Cost.{set_count}
+use Rattle.clock_queue.specs.Order.{AreInverse, AreParted, CountsUp, IsKept, IsHeap, IsHeapBut, rank_of, before}
+use Rattle.clock_queue.proofs.Comes.{comes_over}
 use Rattle.clock_queue.proofs.Best.{foremost_is}
-use Rattle.clock_queue.proofs.Dues.{set_within, same_dues, pending_same, pending_due, due_pending, in_entries_at, entries_at_has, rising_entries_at, due_behind, kept_due, other_kept, same_taken, length_cleared, cleared_at, others_cleared, clears_at, strict_order}
-
-pub front_none : (order : List ℕ) → slice_get order 0 ≡ None → order ≡ []
-front_none [] e = refl
-front_none (x ∷ xs) e = absurd cc
-
-pub front_some : (order : List ℕ) (x : ℕ) → slice_get order 0 ≡ Some x → order ≡ x ∷ drop 1 order
-front_some [] x e = absurd cc
-front_some (y ∷ xs) x e = let s : y ≡ x = cc in ap (λ z. z ∷ xs) s
+use Rattle.clock_queue.proofs.Dues.{some_within, pending_same, pending_due, due_pending, strict_order, clears_at}
+use Rattle.clock_queue.proofs.Sets.{set_new, set_again, set_less, new_count, none_pending}
+use Rattle.clock_queue.proofs.Heaps.{but_from, heap_from, top}
 
 is_some_by : {D : Type 0} (o : Option D) (due : D) → o ≡ Some due → IsSome o
 is_some_by o due e = subst (λ x. IsSome x) (sym e) refl
 
--- the due of what is set
-due_in : {D : Type 0} (o : Option D) → IsSome o → (due : D) × (o ≡ Some due)
-due_in None s = absurd cc
-due_in (Some due) s = (due, refl)
-
-in_without : (entry : ℕ) (order : List ℕ) (x : ℕ) → Among (without entry order) x → Among order x × (x ≢ entry)
-in_without entry order x a =
-    let h = in_filter (λ y. not (eqb y entry)) order x a in
-    let t = h.1 in (h.0, λ e. absurd (grind (arith, nat_tests)))
-
-without_has : (entry : ℕ) (order : List ℕ) (x : ℕ) → Among order x → x ≢ entry → Among (without entry order) x
-without_has entry order x a n = filter_has (λ y. not (eqb y entry)) order x a (differs entry x n)
+some_not_none : {D : Type 0} (o : Option D) → IsSome o → o ≡ None → ⊥
+some_not_none None s e = cc
+some_not_none (Some x) s e = cc
 
 module _ {D : Type 0} (rank : D → ℕ) where
-  rank_alike : (old new : List (Option D)) (x : ℕ) → due_of new x ≡ due_of old x → rank_of rank old x ≡ rank_of rank new x
-  rank_alike old new x e = ap (λ o. option_map_or rank o 0) (sym e)
+  rank_alike : (dues : List (Option D)) (entry x : ℕ) (o : Option D) → x ≢ entry → rank_of rank (set dues entry o) x ≡ rank_of rank dues x
+  rank_alike dues entry x o n = ap (λ v. option_map_or rank v 0) (get_or-set_other dues entry x o None n)
 
   rank_is : (dues : List (Option D)) (x : ℕ) (due : D) → due_of dues x ≡ Some due → rank_of rank dues x ≡ rank due
   rank_is dues x due e = ap (λ o. option_map_or rank o 0) e
 
   -- a queue of which no entry is set
-  pub kept_new : (entries room : ℕ) → entries ≤ room → IsKept rank (replicate entries None) [] room
-  kept_new entries room h = record {
-    are_set = λ x a. absurd a;
-    all = λ x s. none entries x s;
-    ordered = tt;
-    has_room = omega (arith, length-replicate {A = Option D} entries None);
-  }
+  pub kept_new : (entries : ℕ) (dues : List (Option D)) (row places : List ℕ) → dues ≡ replicate entries None
+      → CountsUp entries row → CountsUp entries places → IsKept rank dues row places 0
+  kept_new entries dues row places e r s =
+      let long : length dues ≡ entries = ap length e ∙ length-replicate {A = Option D} entries None in record {
+        parted = record {
+          inverse = record {
+            same = omega (arith, r.all, s.all);
+            entry_at = λ i l. omega (arith, r.each i l);
+            place_of = λ i l. omega (arith, s.each i (omega (arith, r.all, s.all)), l);
+            there = λ i l. ap (λ n. slice_index places n) (r.each i l) ∙ s.each i (omega (arith, r.all, s.all, l));
+            back = λ i l. ap (λ n. slice_index row n) (s.each i (omega (arith, r.all, s.all, l))) ∙ r.each i l;
+          };
+          entries = omega (arith, long, r.all);
+          within = omega arith;
+          front = λ i l. absurd (omega arith);
+          rest = λ i l m. ap (λ ds. due_of ds (slice_index row i)) e ∙ none entries (slice_index row i);
+        };
+        heap = record { each = λ p k a b l. absurd (omega arith) };
+        counted = sym (ap (λ ds. set_count ds) e ∙ new_count D entries);
+      }
     where
-      none : (n x : ℕ) → IsSome (due_of (replicate {A = Option D} n None) x) → Among [] x
-      none zero x s = absurd cc
-      none (suc n) zero s = absurd cc
-      none (suc n) (suc x) s = none n x s
+      none : (n x : ℕ) → due_of (replicate {A = Option D} n None) x ≡ None
+      none zero x = refl
+      none (suc n) zero = refl
+      none (suc n) (suc x) = none n x
 
-  module _ (dues : List (Option D)) (order : List ℕ) (room : ℕ) (h : IsKept rank dues order room) where
-    -- the others stand in order by the dues behind a change of one entry
-    others_ordered : (entry : ℕ) (o : Option D) → IsOrdered (rank_of rank (set dues entry o)) (without entry order)
-    others_ordered entry o =
-        ordered_alike (rank_of rank dues) (rank_of rank (set dues entry o)) (without entry order)
-        (λ x a. rank_alike dues (set dues entry o) x (get_or-set_other dues entry x o None (in_without entry order x a).1))
-        (ordered_filter (rank_of rank dues) (λ x. not (eqb x entry)) order h.ordered)
+  module _ (dues : List (Option D)) (row places : List ℕ) (count : ℕ) (h : IsKept rank dues row places count) where
+    module _ (entry at : ℕ) (is : at ≡ slice_index places entry) (within : entry < length dues) where
+      inside : entry < length row
+      inside = omega (arith, within, h.parted.entries)
 
-    not_itself : (entry : ℕ) → Among (without entry order) entry → ⊥
-    not_itself entry a = (in_without entry order entry a).1 refl
+      pub at_within : at < length row
+      at_within = let k = h.parted.inverse.place_of entry inside in omega (arith, is, k)
 
-    pub others_set : (entry : ℕ) (o : Option D) (x : ℕ) → Among (without entry order) x → IsSome (due_of (set dues entry o) x)
-    others_set entry o x a =
-        let w = in_without entry order x a in
-        subst (λ v. IsSome v) (sym (get_or-set_other dues entry x o None w.1)) (h.are_set x w.0)
+      stands : slice_index row at ≡ entry
+      stands = ap (λ n. slice_index row n) is ∙ h.parted.inverse.back entry inside
 
-    other_all : (entry : ℕ) (o : Option D) (x : ℕ) → x ≢ entry → IsSome (due_of (set dues entry o) x) → Among (without entry order) x
-    other_all entry o x n s =
-        without_has entry order x (h.all x (subst (λ v. IsSome v) (get_or-set_other dues entry x o None n) s)) n
+      pub entry_set : at < count → IsSome (due_of dues entry)
+      entry_set l = subst (λ n. IsSome (due_of dues n)) stands (h.parted.front at l)
 
-    pub kept_clear : (entry room' : ℕ) → room ≤ room' → IsKept rank (set dues entry None) (without entry order) room'
-    kept_clear entry room' more = record {
-      are_set = others_set entry None;
-      all = λ x s. all x s (cases_eq x entry);
-      ordered = others_ordered entry None;
-      has_room = omega (arith, length-set dues entry None, h.has_room);
-    }
-      where
-        all : (x : ℕ) → IsSome (due_of (set dues entry None) x) → (x ≡ entry) ⊎ (x ≡ entry → ⊥) → Among (without entry order) x
-        all x s (inl e) =
-            let s' = subst (λ n. IsSome (due_of (set dues entry None) n)) e s in
-            let k : false ≡ true = subst (λ o. IsSome o) (clears_at dues entry) s' in
-            absurd cc
-        all x s (inr n) = other_all entry None x n s
+      pub entry_unset : count ≤ at → due_of dues entry ≡ None
+      entry_unset l = ap (λ n. due_of dues n) (sym stands) ∙ h.parted.rest at l at_within
 
-    pub kept_set : (entry : ℕ) (due : D) (room' : ℕ) → entry < length dues → room ≤ room'
-        → IsKept rank (set dues entry (Some due)) (inserted (rank_of rank (set dues entry (Some due))) entry (without entry order)) room'
-    kept_set entry due room' within more = record {
-      are_set = λ x a. are_set x (in_inserted (rank_of rank (set dues entry (Some due))) entry (without entry order) x a);
-      all = λ x s. inserted_has (rank_of rank (set dues entry (Some due))) entry (without entry order) x (all x s (cases_eq x entry));
-      ordered = ordered_inserted (rank_of rank (set dues entry (Some due))) entry (without entry order) (others_ordered entry (Some due)) (not_itself entry);
-      has_room = omega (arith, length-set dues entry (Some due), h.has_room);
-    }
-      where
-        are_set : (x : ℕ) → (x ≡ entry) ⊎ Among (without entry order) x → IsSome (due_of (set dues entry (Some due)) x)
-        are_set x (inl e) =
-            subst (λ n. IsSome (due_of (set dues entry (Some due)) n)) (sym e)
-            (is_some_by (due_of (set dues entry (Some due)) entry) due (get_or-set_same dues entry (Some due) None within))
-        are_set x (inr a) = others_set entry (Some due) x a
+      other_entry : (k : ℕ) → k < length row → k ≢ at → slice_index row k ≢ entry
+      other_entry k l n = λ e. n (sym (h.parted.inverse.there k l) ∙ (ap (λ x. slice_index places x) e ∙ sym is))
 
-        all : (x : ℕ) → IsSome (due_of (set dues entry (Some due)) x) → (x ≡ entry) ⊎ (x ≡ entry → ⊥) → (x ≡ entry) ⊎ Among (without entry order) x
-        all x s (inl e) = inl e
-        all x s (inr n) = inr (other_all entry (Some due) x n s)
+      -- what is said of another entry's due, where this one's changes
+      other_due : (o : Option D) (k : ℕ) → k < length row → k ≢ at
+          → due_of (set dues entry o) (slice_index row k) ≡ due_of dues (slice_index row k)
+      other_due o k l n = get_or-set_other dues entry (slice_index row k) o None (other_entry k l n)
 
-    -- there is room for one more beside the others
-    pub room_for : (entry : ℕ) → entry < length dues → length (without entry order) < room
-    room_for entry within =
-        let n = length_below (length dues) (entry ∷ without entry order) (not_itself entry, distinct) below in
-        omega (arith, n, h.has_room)
-      where
-        distinct : IsDistinct (without entry order)
-        distinct = distinct_ordered (rank_of rank dues) (without entry order) (ordered_filter (rank_of rank dues) (λ x. not (eqb x entry)) order h.ordered)
+      other_set : (o : Option D) (k : ℕ) → k < count → k ≢ at → IsSome (due_of (set dues entry o) (slice_index row k))
+      other_set o k l n = subst (λ v. IsSome v) (sym (other_due o k (omega (arith, h.parted.within)) n)) (h.parted.front k l)
 
-        below : (x : ℕ) → Among (entry ∷ without entry order) x → x < length dues
-        below x (inl e) = omega (arith, within, e)
-        below x (inr a) = set_within dues x (h.are_set x (in_without entry order x a).0)
+      other_unset : (o : Option D) (k : ℕ) → count ≤ k → k < length row → k ≢ at → due_of (set dues entry o) (slice_index row k) ≡ None
+      other_unset o k l m n = other_due o k m n ∙ h.parted.rest k l m
 
-    pub due_below : (x : ℕ) → Among order x → x < length dues
-    due_below x a = set_within dues x (h.are_set x a)
+      other_rank : (o : Option D) (k : ℕ) → k < length row → k ≢ at
+          → rank_of rank (set dues entry o) (slice_index row k) ≡ rank_of rank dues (slice_index row k)
+      other_rank o k l n = rank_alike dues entry (slice_index row k) o (other_entry k l n)
 
-    -- where none stands in front, none is pending
-    pub none_least : order ≡ [] → least_pending rank dues ≡ None
-    none_least e = go (pending dues) refl
-      where
-        go : (xs : List (Pending D)) → pending dues ≡ xs → least_pending rank dues ≡ None
-        go [] k = rw k refl
-        go (x ∷ xs) k =
-            let a : Among (pending dues) x = subst (λ ys. Among ys x) (sym k) (inl refl) in
-            let s = h.all x.number (is_some_by (due_of dues x.number) x.due (pending_due dues x a)) in
-            absurd (subst (λ ys. Among ys x.number) e s)
+      its_due : (due : D) → IsSome (due_of (set dues entry (Some due)) (slice_index row at))
+      its_due due = is_some_by (due_of (set dues entry (Some due)) (slice_index row at)) due
+          (ap (λ n. due_of (set dues entry (Some due)) n) stands ∙ get_or-set_same dues entry (Some due) None within)
 
-    -- what stands in front is the least
-    pub front_least : (first : ℕ) (others : List ℕ) (due : D) → order ≡ first ∷ others → due_of dues first ≡ Some due
+      -- an entry that is set again
+      module _ (due : D) (in_front : at < count) where
+        pub again_parted : AreParted (set dues entry (Some due)) row places count
+        again_parted = record {
+          inverse = h.parted.inverse;
+          entries = omega (arith, length-set dues entry (Some due), h.parted.entries);
+          within = h.parted.within;
+          front = λ k l. front k l (cases_eq k at);
+          rest = λ k l m. other_unset (Some due) k l m (λ e. absurd (omega arith));
+        }
+          where
+            front : (k : ℕ) → k < count → (k ≡ at) ⊎ (k ≡ at → ⊥) → IsSome (due_of (set dues entry (Some due)) (slice_index row k))
+            front k l (inl e) = subst (λ n. IsSome (due_of (set dues entry (Some due)) (slice_index row n))) (sym e) (its_due due)
+            front k l (inr n) = other_set (Some due) k l n
+
+        pub again_but : IsHeapBut (rank_of rank (set dues entry (Some due))) row count at
+        again_but = but_from (rank_of rank dues) (rank_of rank (set dues entry (Some due))) row row count count at
+            (λ k l n. (l, refl, other_rank (Some due) k (omega (arith, h.parted.within)) n)) h.heap
+
+        pub again_counted : count ≡ set_count (set dues entry (Some due))
+        again_counted = h.counted ∙ sym (set_again dues entry due (entry_set in_front))
+
+      -- an entry that wasn't set comes in front of the rest
+      module _ (due : D) (behind : count ≤ at) (row' places' : List ℕ) (sw : SwappedAt row row' count at)
+          (long : length row' ≡ length row) (inv : AreInverse row' places') where
+        stays_front : (k : ℕ) → k < count → slice_index row' k ≡ slice_index row k
+        stays_front k l = sw.2 k 0 (λ e. absurd (omega arith)) (λ e. absurd (omega arith))
+
+        pub new_parted : AreParted (set dues entry (Some due)) row' places' (count + 1)
+        new_parted = record {
+          inverse = inv;
+          entries = omega (arith, length-set dues entry (Some due), h.parted.entries, long);
+          within = omega (arith, at_within, long);
+          front = λ k l. front k l (cases_eq k count);
+          rest = λ k l m. rest k l m (cases_eq k at);
+        }
+          where
+            front : (k : ℕ) → k < count + 1 → (k ≡ count) ⊎ (k ≡ count → ⊥)
+                → IsSome (due_of (set dues entry (Some due)) (slice_index row' k))
+            front k l (inl e) = subst (λ n. IsSome (due_of (set dues entry (Some due)) n))
+                (sym (ap (λ n. slice_index row' n) e ∙ sw.0 0)) (its_due due)
+            front k l (inr n) = subst (λ x. IsSome (due_of (set dues entry (Some due)) x)) (sym (stays_front k (omega (arith, n))))
+                (other_set (Some due) k (omega (arith, n)) (λ e. absurd (omega (arith, n))))
+
+            rest : (k : ℕ) → count + 1 ≤ k → k < length row' → (k ≡ at) ⊎ (k ≡ at → ⊥)
+                → due_of (set dues entry (Some due)) (slice_index row' k) ≡ None
+            rest k l m (inl e) = ap (λ n. due_of (set dues entry (Some due)) n) (ap (λ n. slice_index row' n) e ∙ sw.1 0)
+                ∙ other_unset (Some due) count (omega arith) (omega (arith, at_within)) (λ u. absurd (omega arith))
+            rest k l m (inr n) = ap (λ x. due_of (set dues entry (Some due)) x) (sw.2 k 0 (λ u. absurd (omega arith)) n)
+                ∙ other_unset (Some due) k (omega arith) (omega (arith, long)) n
+
+        pub new_but : IsHeapBut (rank_of rank (set dues entry (Some due))) row' (count + 1) count
+        new_but = but_from (rank_of rank dues) (rank_of rank (set dues entry (Some due))) row row' count (count + 1) count
+            (λ k l n. let m : k < count = omega (arith, n) in
+            (m, stays_front k m, other_rank (Some due) k (omega (arith, h.parted.within)) (λ e. absurd (omega arith)))) h.heap
+
+        pub new_counted : count + 1 ≡ set_count (set dues entry (Some due))
+        new_counted = let e = set_new dues entry due within (entry_unset behind) in omega (arith, e, h.counted)
+
+      -- an entry that was set goes behind the others
+      module _ (in_front : at < count) (last : ℕ) (one : last + 1 ≡ count) (row' places' : List ℕ) (sw : SwappedAt row row' at last)
+          (long : length row' ≡ length row) (inv : AreInverse row' places') where
+        pub less_parted : AreParted (set dues entry None) row' places' last
+        less_parted = record {
+          inverse = inv;
+          entries = omega (arith, length-set dues entry None, h.parted.entries, long);
+          within = omega (arith, h.parted.within, long);
+          front = λ k l. front k l (cases_eq k at);
+          rest = λ k l m. rest k l m (cases_eq k last);
+        }
+          where
+            front : (k : ℕ) → k < last → (k ≡ at) ⊎ (k ≡ at → ⊥) → IsSome (due_of (set dues entry None) (slice_index row' k))
+            front k l (inl e) = subst (λ n. IsSome (due_of (set dues entry None) n)) (sym (ap (λ n. slice_index row' n) e ∙ sw.0 0))
+                (other_set None last (omega arith) (λ u. absurd (omega arith)))
+            front k l (inr n) = subst (λ x. IsSome (due_of (set dues entry None) x)) (sym (sw.2 k 0 n (λ u. absurd (omega arith))))
+                (other_set None k (omega arith) n)
+
+            rest : (k : ℕ) → last ≤ k → k < length row' → (k ≡ last) ⊎ (k ≡ last → ⊥)
+                → due_of (set dues entry None) (slice_index row' k) ≡ None
+            rest k l m (inl e) = ap (λ n. due_of (set dues entry None) n) (ap (λ n. slice_index row' n) e ∙ (sw.1 0 ∙ stands))
+                ∙ clears_at dues entry
+            rest k l m (inr n) = ap (λ x. due_of (set dues entry None) x) (sw.2 k 0 (λ u. absurd (omega (arith, n))) n)
+                ∙ other_unset None k (omega (arith, n)) (omega (arith, long)) (λ u. absurd (omega (arith, n)))
+
+        pub less_but : IsHeapBut (rank_of rank (set dues entry None)) row' last at
+        less_but = but_from (rank_of rank dues) (rank_of rank (set dues entry None)) row row' count last at
+            (λ k l n. (omega arith, sw.2 k 0 n (λ u. absurd (omega arith)), other_rank None k (omega (arith, h.parted.within)) n)) h.heap
+
+        pub less_heap : last ≤ at → IsHeap (rank_of rank (set dues entry None)) row' last
+        less_heap l = heap_from (rank_of rank dues) (rank_of rank (set dues entry None)) row row' count last
+            (λ k m. let n : k ≢ at = λ u. absurd (omega arith) in
+            (omega arith, sw.2 k 0 n (λ u. absurd (omega arith)), other_rank None k (omega (arith, h.parted.within)) n)) h.heap
+
+        pub less_counted : last ≡ set_count (set dues entry None)
+        less_counted = let e = set_less dues entry (entry_set in_front) in omega (arith, e, h.counted)
+
+    -- where none is set, none is pending
+    pub none_least : count ≡ 0 → least_pending rank dues ≡ None
+    none_least e = let k = none_pending dues (sym h.counted ∙ e) in rw k refl
+
+    -- the top is the least
+    pub top_least : (first : ℕ) (due : D) → 0 < count → first ≡ slice_index row 0 → due_of dues first ≡ Some due
         → least_pending rank dues ≡ Some (record { number = first; due = due })
-    front_least first others due e d =
+    top_least first due some e d =
         foremost_is (precedes rank) (strict_order rank) (pending dues) (record { number = first; due = due })
         (due_pending dues (record { number = first; due = due }) d)
-        (λ y a. over y (pending_due dues y a) (place y (pending_due dues y a)))
+        (λ y a. over y (pending_due dues y a) (cases_eq y.number first))
       where
-        place : (y : Pending D) → due_of dues y.number ≡ Some y.due → Among (first ∷ others) y.number
-        place y k = subst (λ xs. Among xs y.number) e (h.all y.number (is_some_by (due_of dues y.number) y.due k))
+        -- each entry that is set stands in front
+        place : (y : Pending D) → due_of dues y.number ≡ Some y.due
+            → (slice_index places y.number < count) × (slice_index row (slice_index places y.number) ≡ y.number)
+        place y k = go (cases_lt (slice_index places y.number) count)
+          where
+            l : y.number < length row
+            l = let m = some_within dues y.number y.due k in omega (arith, m, h.parted.entries)
 
-        in_order : IsOrdered (rank_of rank dues) (first ∷ others)
-        in_order = subst (λ xs. IsOrdered (rank_of rank dues) xs) e h.ordered
+            go : (slice_index places y.number < count) ⊎ (count ≤ slice_index places y.number)
+                → (slice_index places y.number < count) × (slice_index row (slice_index places y.number) ≡ y.number)
+            go (inl m) = (m, h.parted.inverse.back y.number l)
+            go (inr m) =
+                let q = h.parted.rest (slice_index places y.number) m (h.parted.inverse.place_of y.number l) in
+                let b = h.parted.inverse.back y.number l in
+                absurd (let z = sym (ap (λ n. due_of dues n) b ∙ k) ∙ q in cc)
 
-        over : (y : Pending D) → due_of dues y.number ≡ Some y.due → Among (first ∷ others) y.number
+        over : (y : Pending D) → due_of dues y.number ≡ Some y.due → (y.number ≡ first) ⊎ (y.number ≡ first → ⊥)
             → (y ≡ record { number = first; due = due }) ⊎ (precedes rank (record { number = first; due = due }) y ≡ true)
         over y k (inl s) =
             let r : Some y.due ≡ Some due = sym k ∙ (ap (λ n. due_of dues n) s ∙ d) in
             inl (pending_same y (record { number = first; due = due }) s cc)
-        over y k (inr a) =
+        over y k (inr n) =
+            let p = place y k in
             let r : rank_of rank dues first ≡ rank due = rank_is dues first due d in
             let q : rank_of rank dues y.number ≡ rank y.due = rank_is dues y.number y.due k in
-            inr (rw (← r, ← q) (in_order.0 y.number a))
-
-    -- a taking at a moment before which none is due
-    module _ (moment : ℕ) (early : NoneBefore rank moment dues) where
-      not_early : (x : ℕ) → Among order x → moment ≤ rank_of rank dues x
-      not_early x a =
-          let o = due_in (due_of dues x) (h.are_set x a) in
-          let r = rank_is dues x o.0 o.1 in
-          let l = early.each x o.0 o.1 in
-          omega arith
-
-      abbrev is_due : ℕ → Bool
-      is_due x = eqb (rank_of rank dues x) moment
-
-      pub taken_are : take (front_at (rank_of rank dues) moment order) order ≡ entries_at rank moment dues
-      taken_are = taken ∙ same_rising (filter is_due order) (entries_at rank moment dues)
-          (rising_ordered (rank_of rank dues) moment (filter is_due order)
-          (ordered_filter (rank_of rank dues) is_due order h.ordered)
-          (λ x a. let t = (in_filter is_due order x a).1 in grind (arith, nat_tests)))
-          (rising_entries_at rank moment dues) there back
-        where
-          taken : take (front_at (rank_of rank dues) moment order) order ≡ filter is_due order
-          taken = take_front (rank_of rank dues) moment order h.ordered not_early
-
-          there : (x : ℕ) → Among (filter is_due order) x → Among (entries_at rank moment dues) x
-          there x a =
-              let f = in_filter is_due order x a in
-              let o = due_in (due_of dues x) (h.are_set x f.0) in
-              let r = rank_is dues x o.0 o.1 in
-              let t = f.1 in
-              entries_at_has rank moment dues x o.0 o.1 (grind (arith, nat_tests))
-
-          back : (x : ℕ) → Among (entries_at rank moment dues) x → Among (filter is_due order) x
-          back x a =
-              let f = in_entries_at rank moment dues x a in
-              let r = rank_is dues x f.0 f.1 in
-              let q = f.2 in
-              filter_has is_due order x (h.all x (is_some_by (due_of dues x) f.0 f.1)) (grind (arith, nat_tests))
-
-      pub left_are : cleared (entries_at rank moment dues) dues ≡ dues_behind rank moment dues
-      left_are = same_dues (cleared (entries_at rank moment dues) dues) (dues_behind rank moment dues)
-          (length_cleared (entries_at rank moment dues) dues ∙ sym (length-map dues (due_unless rank moment)))
-          (λ x. each x (due_of dues x) refl ∙ sym (due_behind rank moment dues x))
-        where
-          each : (x : ℕ) (o : Option D) → due_of dues x ≡ o
-              → due_of (cleared (entries_at rank moment dues) dues) x ≡ due_unless rank moment (due_of dues x)
-          each x None e =
-              others_cleared (entries_at rank moment dues) dues x
-              (λ a. let f = in_entries_at rank moment dues x a in let k = f.1 in absurd cc)
-              ∙ (e ∙ sym (ap (λ o. due_unless rank moment o) e))
-          each x (Some due) e = go (cases_eq (rank due) moment)
-            where
-              go : (rank due ≡ moment) ⊎ (rank due ≡ moment → ⊥)
-                  → due_of (cleared (entries_at rank moment dues) dues) x ≡ due_unless rank moment (due_of dues x)
-              go (inl r) =
-                  cleared_at (entries_at rank moment dues) dues x (entries_at_has rank moment dues x due e r)
-                  ∙ (sym (same_taken rank moment due r) ∙ sym (ap (λ o. due_unless rank moment o) e))
-              go (inr n) =
-                  others_cleared (entries_at rank moment dues) dues x
-                  (λ a. let f = in_entries_at rank moment dues x a in
-                  let k = f.1 in
-                  let s : f.0 ≡ due = cc in
-                  n (ap rank (sym s) ∙ f.2))
-                  ∙ (e ∙ (sym (other_kept rank moment due n) ∙ sym (ap (λ o. due_unless rank moment o) e)))
-
-      pub kept_taken : (room' : ℕ) → room ≤ room'
-          → IsKept rank (dues_behind rank moment dues) (drop (front_at (rank_of rank dues) moment order) order) room'
-      kept_taken room' more = subst (λ xs. IsKept rank (dues_behind rank moment dues) xs room')
-          (sym (drop_front (rank_of rank dues) moment order h.ordered not_early)) kept
-        where
-          stays : (x : ℕ) → Among (filter (λ y. not (is_due y)) order) x
-              → due_of (dues_behind rank moment dues) x ≡ due_of dues x
-          stays x a =
-              let f = in_filter (λ y. not (is_due y)) order x a in
-              let o = due_in (due_of dues x) (h.are_set x f.0) in
-              let r = rank_is dues x o.0 o.1 in
-              let t = f.1 in
-              let n : rank o.0 ≢ moment = λ q. absurd (let s : rank_of rank dues x ≡ moment = r ∙ q in grind (arith, nat_tests)) in
-              due_behind rank moment dues x
-              ∙ (ap (λ v. due_unless rank moment v) o.1 ∙ (other_kept rank moment o.0 n ∙ sym o.1))
-
-          kept : IsKept rank (dues_behind rank moment dues) (filter (λ x. not (is_due x)) order) room'
-          kept = record {
-            are_set = λ x a. subst (λ o. IsSome o) (sym (stays x a)) (h.are_set x (in_filter (λ y. not (is_due y)) order x a).0);
-            all = λ x s. all x s;
-            ordered = ordered_alike (rank_of rank dues) (rank_of rank (dues_behind rank moment dues))
-                (filter (λ x. not (is_due x)) order) (λ x a. rank_alike dues (dues_behind rank moment dues) x (stays x a))
-                (ordered_filter (rank_of rank dues) (λ x. not (is_due x)) order h.ordered);
-            has_room = omega (arith, length-map dues (due_unless rank moment), h.has_room);
-          }
-            where
-              all : (x : ℕ) → IsSome (due_of (dues_behind rank moment dues) x) → Among (filter (λ y. not (is_due y)) order) x
-              all x s =
-                  let o = due_in (due_of (dues_behind rank moment dues) x) s in
-                  let k = kept_due rank moment (due_of dues x) o.0 (sym (due_behind rank moment dues x) ∙ o.1) in
-                  let r = rank_is dues x o.0 k.0 in
-                  let n = k.1 in
-                  filter_has (λ y. not (is_due y)) order x (h.all x (is_some_by (due_of dues x) o.0 k.0))
-                  (differs moment (rank_of rank dues x) (λ q. n (sym r ∙ q)))
-
-      -- the same for what the code has: so many in front, the entries that these are, and the dues without them
-      module _ (count : ℕ) (counted : count ≡ front_at (rank_of rank dues) moment order) where
-        pub taken_by : (entries : List ℕ) → entries ≡ take count order → entries ≡ entries_at rank moment dues
-        taken_by entries e = e ∙ (ap (λ n. take n order) counted ∙ taken_are)
-
-        pub left_by : (entries : List ℕ) → entries ≡ take count order → cleared entries dues ≡ dues_behind rank moment dues
-        left_by entries e = ap (λ xs. cleared xs dues) (taken_by entries e) ∙ left_are
-
-        pub kept_by : (room' : ℕ) → room ≤ room' → IsKept rank (dues_behind rank moment dues) (drop count order) room'
-        kept_by room' more = subst (λ n. IsKept rank (dues_behind rank moment dues) (drop n order) room') (sym counted) (kept_taken room' more)
+            let t : before (rank_of rank dues) y.number first
+            ≡ false = rw (← p.1, e) (top (rank_of rank dues) row count h.heap (slice_index places y.number) p.0) in
+            inr (rw (← r, ← q) (comes_over (rank_of rank dues y.number) (rank_of rank dues first) y.number first t n))

@@ -1,8 +1,8 @@
 -- What is among a list, a filter of it, and lists without repeats.
-use Rattle.std.proofs.Common.{◌≡◌, ◌<◌, ◌≤◌, ℕ, zero, suc, Bool, true, false, not, cond, eqb, List, [], ◌∷◌, length, get_or, take, sym, refl, ap, ◌∙◌, subst, inl, inr, arith}
-use Rattle.std.proofs.lemmas.Bool.Decides.{nat_tests}
+use Rattle.std.proofs.Common.{◌≡◌, ◌<◌, ℕ, zero, suc, Bool, true, false, cond, List, [], ◌∷◌, length, get_or, take, sym, refl, ap, ◌∙◌, inl}
+use Rattle.std.proofs.Common.{inr, arith}
 use Rattle.std.specs.List.{filter}
-use Rattle.clock_queue.specs.Order.{Among, without}
+use Rattle.clock_queue.specs.Order.{Among}
 
 -- a filter gives the items that pass
 module _ {A : Type 0} (p : A → Bool) where
@@ -105,35 +105,3 @@ distinct_filter p (x ∷ xs) d = go (p x) (distinct_filter p xs d.1)
     go : (b : Bool) → IsDistinct (filter p xs) → IsDistinct (cond b (x ∷ filter p xs) (filter p xs))
     go true r = (λ a. d.0 (in_filter p xs x a).0, r)
     go false r = r
-
-pub differs : (n x : ℕ) → (x ≡ n → ⊥) → not (eqb x n) ≡ true
-differs n x h = grind (arith, nat_tests)
-
--- without a number, a list without repeats is one shorter at most
-without_one : (n : ℕ) (xs : List ℕ) → IsDistinct xs → length xs ≤ suc (length (without n xs))
-without_one n [] d = omega arith
-without_one n (x ∷ xs) d = go (eqb x n) refl (without_one n xs d.1)
-  where
-    same : x ≡ n → without n xs ≡ xs
-    same e = filter_all (λ x. not (eqb x n)) xs (λ y a. differs n y (λ t. d.0 (subst (λ z. Among xs z) (t ∙ sym e) a)))
-
-    go : (b : Bool) → eqb x n ≡ b → length xs ≤ suc (length (without n xs))
-        → suc (length xs) ≤ suc (length (cond (not b) (x ∷ without n xs) (without n xs)))
-    go true t r = let e : x ≡ n = grind (arith, nat_tests) in let k = ap length (same e) in omega arith
-    go false t r = omega arith
-
--- numbers below n without repeats are n at most
-pub length_below : (n : ℕ) (xs : List ℕ) → IsDistinct xs → ((x : ℕ) → Among xs x → x < n) → length xs ≤ n
-length_below n [] d h = omega arith
-length_below zero (x ∷ xs) d h = absurd (let k = h x (inl refl) in omega arith)
-length_below (suc n) (x ∷ xs) d h =
-    let one = without_one n (x ∷ xs) d in
-    let rest = length_below n (without n (x ∷ xs)) (distinct_filter (λ y. not (eqb y n)) (x ∷ xs) d) below in
-    omega arith
-  where
-    below : (y : ℕ) → Among (without n (x ∷ xs)) y → y < n
-    below y a =
-        let k = in_filter (λ z. not (eqb z n)) (x ∷ xs) y a in
-        let l = h y k.0 in
-        let t = k.1 in
-        grind (arith, nat_tests)

@@ -2,9 +2,9 @@
 #![tactic(auto)]
 
 mod due;
+mod heap;
 mod laws;
 mod moment;
-mod order;
 mod queue;
 
 pub use due::{Due, Judge};

@@ -1,27 +1,110 @@
-use Rattle.std.proofs.Common.{◌<◌, ◌≤◌, length, Some, arith, ap, subst, vec_capacity}
-use Rattle.clock_queue.specs.Order.{Among}
-use Rattle.clock_queue.proofs.Kept.{kept_set, others_set, room_for}
+use Rattle.std.proofs.Common.{◌≡◌, ◌<◌, ◌+◌, length, slice_index, max, set, Some, sym, ap, ◌∙◌, arith}
+use Rattle.std.proofs.lemmas.List.{get_or_read}
+use Rattle.clock_queue.specs.Cost.{set_count}
+use Rattle.clock_queue.proofs.Digits.{digits_grow}
+use Rattle.clock_queue.proofs.Kept.{again_parted, again_but, again_counted, new_parted, new_but, new_counted}
 use Rattle.clock_queue.proofs.queue.Queue.set.Goals as goal
 
-pub link-requires-clause-all_set : goal.link-requires-clause-all_set
-link-requires-clause-all_set g c = λ k a.
+pub mend-requires-clause-parted : goal.mend-requires-clause-parted
+mend-requires-clause-parted g c =
     let q = c.self.inside in
-    rw c.deref.ensures.value
-    (others_set g.D.Due.rank q.dues.items q.order.items (vec_capacity q.order) c.self.invariant c.args.entry
-    (Some c.args.due) k (subst (λ xs. Among xs k) c.unlink.ensures.order a))
-
-pub link-requires-clause-room : goal.link-requires-clause-room
-link-requires-clause-room g c =
-    let q = c.self.inside in
+    let h = c.self.invariant in
+    let rank = g.D.Due.rank in
+    let at = c.index-at.result.now in
     let within : c.args.entry < length q.dues.items = omega (arith, c.requires, ap length c.self.view_is) in
-    let room = room_for g.D.Due.rank q.dues.items q.order.items (vec_capacity q.order) c.self.invariant c.args.entry within in
-    omega (arith, room, ap length c.unlink.ensures.order, c.unlink.ensures.room)
+    let is : at ≡ slice_index q.heap.places.items c.args.entry = get_or_read q.heap.places.items c.args.entry at
+    (omega (arith, within, h.parted.entries, h.parted.inverse.same)) c.index-at.ensures 0 in
+    rw c.deref.ensures.value
+    (again_parted rank q.dues.items q.heap.row.items q.heap.places.items q.heap.count h c.args.entry at is within c.args.due c.if-at-self.true)
+
+pub mend-requires-clause-but : goal.mend-requires-clause-but
+mend-requires-clause-but g c =
+    let q = c.self.inside in
+    let h = c.self.invariant in
+    let rank = g.D.Due.rank in
+    let at = c.index-at.result.now in
+    let within : c.args.entry < length q.dues.items = omega (arith, c.requires, ap length c.self.view_is) in
+    let is : at ≡ slice_index q.heap.places.items c.args.entry = get_or_read q.heap.places.items c.args.entry at
+    (omega (arith, within, h.parted.entries, h.parted.inverse.same)) c.index-at.ensures 0 in
+    rw c.deref.ensures.value
+    (again_but rank q.dues.items q.heap.row.items q.heap.places.items q.heap.count h c.args.entry at is within c.args.due c.if-at-self.true)
 
 pub invariant_of-self : goal.invariant_of-self
 invariant_of-self g c =
     let q = c.self.inside in
+    let h = c.self.invariant in
+    let rank = g.D.Due.rank in
+    let at = c.index-at.result.now in
     let within : c.args.entry < length q.dues.items = omega (arith, c.requires, ap length c.self.view_is) in
-    let more : vec_capacity q.order ≤ vec_capacity c.link.new.order = omega (arith, c.unlink.ensures.room, c.link.ensures.room) in
-    rw (c.link.ensures.order, c.deref.ensures.value, c.unlink.ensures.order)
-    (kept_set g.D.Due.rank q.dues.items q.order.items (vec_capacity q.order) c.self.invariant c.args.entry c.args.due
-    (vec_capacity c.link.new.order) within more)
+    let is : at ≡ slice_index q.heap.places.items c.args.entry = get_or_read q.heap.places.items c.args.entry at
+    (omega (arith, within, h.parted.entries, h.parted.inverse.same)) c.index-at.ensures 0 in
+    record {
+      parted = rw c.deref.ensures.value at c.mend.ensures.parted;
+      heap = rw c.deref.ensures.value at c.mend.ensures.heap;
+      counted = c.mend.ensures.count
+          ∙ again_counted rank q.dues.items q.heap.row.items q.heap.places.items q.heap.count h c.args.entry at is within c.args.due c.if-at-self.true;
+    }
+
+pub mend-requires-else-at-self-clause-parted : goal.mend-requires-else-at-self-clause-parted
+mend-requires-else-at-self-clause-parted g c =
+    let q = c.self.inside in
+    let h = c.self.invariant in
+    let rank = g.D.Due.rank in
+    let at = c.index-at.result.now in
+    let within : c.args.entry < length q.dues.items = omega (arith, c.requires, ap length c.self.view_is) in
+    let is : at ≡ slice_index q.heap.places.items c.args.entry = get_or_read q.heap.places.items c.args.entry at
+    (omega (arith, within, h.parted.entries, h.parted.inverse.same)) c.index-at.ensures 0 in
+    rw c.deref-else-at-self.ensures.value
+    (new_parted rank q.dues.items q.heap.row.items q.heap.places.items q.heap.count h c.args.entry at is within c.args.due c.if-at-self.false c.exchange.new.heap.row.items c.exchange.new.heap.places.items c.exchange.ensures.row c.exchange.ensures.entries c.exchange.ensures.inverse)
+
+pub mend-requires-else-at-self-clause-but : goal.mend-requires-else-at-self-clause-but
+mend-requires-else-at-self-clause-but g c =
+    let q = c.self.inside in
+    let h = c.self.invariant in
+    let rank = g.D.Due.rank in
+    let at = c.index-at.result.now in
+    let within : c.args.entry < length q.dues.items = omega (arith, c.requires, ap length c.self.view_is) in
+    let is : at ≡ slice_index q.heap.places.items c.args.entry = get_or_read q.heap.places.items c.args.entry at
+    (omega (arith, within, h.parted.entries, h.parted.inverse.same)) c.index-at.ensures 0 in
+    rw c.deref-else-at-self.ensures.value
+    (new_but rank q.dues.items q.heap.row.items q.heap.places.items q.heap.count h c.args.entry at is within c.args.due c.if-at-self.false c.exchange.new.heap.row.items c.exchange.new.heap.places.items c.exchange.ensures.row c.exchange.ensures.entries c.exchange.ensures.inverse)
+
+pub invariant_of-self-else-at-self : goal.invariant_of-self-else-at-self
+invariant_of-self-else-at-self g c =
+    let q = c.self.inside in
+    let h = c.self.invariant in
+    let rank = g.D.Due.rank in
+    let at = c.index-at.result.now in
+    let within : c.args.entry < length q.dues.items = omega (arith, c.requires, ap length c.self.view_is) in
+    let is : at ≡ slice_index q.heap.places.items c.args.entry = get_or_read q.heap.places.items c.args.entry at
+    (omega (arith, within, h.parted.entries, h.parted.inverse.same)) c.index-at.ensures 0 in
+    record {
+      parted = rw c.deref-else-at-self.ensures.value at c.mend-else-at-self.ensures.parted;
+      heap = rw c.deref-else-at-self.ensures.value at c.mend-else-at-self.ensures.heap;
+      counted = c.mend-else-at-self.ensures.count
+          ∙ new_counted rank q.dues.items q.heap.row.items q.heap.places.items q.heap.count h c.args.entry at is within c.args.due c.if-at-self.false c.exchange.new.heap.row.items c.exchange.new.heap.places.items c.exchange.ensures.row c.exchange.ensures.entries c.exchange.ensures.inverse;
+    }
+
+pub returns-then-at-self-clause-cost : goal.returns-then-at-self-clause-cost
+returns-then-at-self-clause-cost g c =
+    let q = c.self.inside in
+    let h = c.self.invariant in
+    let after = set q.dues.items c.args.entry (Some c.args.due) in
+    let old : set_count c.args.self.now ≡ q.heap.count = ap (λ ds. set_count ds) (sym c.self.view_is) ∙ sym h.counted in
+    let grow = digits_grow q.heap.count (max (set_count c.args.self.now) (set_count after)) (omega (arith, old)) in
+    omega (arith, grow, c.mend.ensures.cost)
+
+pub returns-else-at-self-clause-cost : goal.returns-else-at-self-clause-cost
+returns-else-at-self-clause-cost g c =
+    let q = c.self.inside in
+    let h = c.self.invariant in
+    let rank = g.D.Due.rank in
+    let at = c.index-at.result.now in
+    let within : c.args.entry < length q.dues.items = omega (arith, c.requires, ap length c.self.view_is) in
+    let is : at ≡ slice_index q.heap.places.items c.args.entry = get_or_read q.heap.places.items c.args.entry at
+    (omega (arith, within, h.parted.entries, h.parted.inverse.same)) c.index-at.ensures 0 in
+    let after = set q.dues.items c.args.entry (Some c.args.due) in
+    let count : q.heap.count + 1
+    ≡ set_count after = new_counted rank q.dues.items q.heap.row.items q.heap.places.items q.heap.count h c.args.entry at is within c.args.due c.if-at-self.false c.exchange.new.heap.row.items c.exchange.new.heap.places.items c.exchange.ensures.row c.exchange.ensures.entries c.exchange.ensures.inverse in
+    let grow = digits_grow (q.heap.count + 1) (max (set_count c.args.self.now) (set_count after)) (omega (arith, count)) in
+    omega (arith, grow, c.mend-else-at-self.ensures.cost)

@@ -1,56 +1,46 @@
-use Rattle.std.proofs.Common.{◌≡◌, ◌≤◌, take, arith, sym, ap, ◌∙◌, subst, vec_capacity}
-use Rattle.clock_queue.specs.Dues.{NoneBefore, entries_at, dues_behind}
-use Rattle.clock_queue.specs.Order.{Among, front_at, rank_of}
-use Rattle.clock_queue.proofs.Members.{among_take}
-use Rattle.clock_queue.proofs.Kept.{due_below, taken_by, left_by, kept_by}
+use Rattle.std.proofs.Common.{◌≡◌, ◌+◌, ◌++◌, [], ◌∷◌, length, length-append, append_assoc, max, sym, ap, ◌∙◌, arith, rules}
+use Rattle.clock_queue.specs.Cost.{set_count, binary_digits}
+use Rattle.clock_queue.proofs.Digits.{digits_grow, cost_more, cost_all}
+use Rattle.clock_queue.proofs.Sets.{set_less}
 use Rattle.clock_queue.proofs.queue.Queue.take_due.Goals as goal
 
-pub clear_each-requires : goal.clear_each-requires
-clear_each-requires g c = λ k a.
-    let q = c.self.inside in
-    let e : c.in_ok-due.due.items ≡ take c.due_count-count.result q.order.items = rw c.deref-3.ensures.value at c.in_ok-due.ensures in
-    due_below g.D.Due.rank q.dues.items q.order.items (vec_capacity q.order) c.self.invariant k
-    (among_take c.due_count-count.result q.order.items k
-    (subst (λ xs. Among xs k) (c.deref-4.ensures.value ∙ e) a))
+pub loop-entry-smaller : goal.loop-entry-smaller
+loop-entry-smaller g c =
+    let less = set_less c.loop-entry.self c.in-Some.entry c.in-Some.ensures.next.is_set in
+    let same = ap (λ ds. set_count ds) c.clear.ensures.dues in
+    omega (arith, less, same)
 
-pub invariant_of-self : goal.invariant_of-self
-invariant_of-self g c =
-    let q = c.self.inside in
+pub loop-entry-preserved : goal.loop-entry-preserved
+loop-entry-preserved g c =
+    let l = c.loop-entry in
+    let entry = c.in-Some.entry in
+    let next = c.in-Some.ensures.next in
     let rank = g.D.Due.rank in
-    let moment = g.D.Due.rank c.args.moment.now in
-    let room = vec_capacity q.order in
-    let early = subst (λ ds. NoneBefore rank moment ds) (sym c.self.view_is) c.requires in
-    let counted : c.due_count-count.result ≡ front_at (rank_of rank q.dues.items) moment q.order.items =
-    rw (c.deref.ensures.value, c.deref-2.ensures.value) at c.due_count-count.ensures.due in
-    let e : c.in_ok-due.due.items ≡ take c.due_count-count.result q.order.items = rw c.deref-3.ensures.value at c.in_ok-due.ensures in
-    let left = c.clear_each.ensures ∙ left_by rank q.dues.items q.order.items room c.self.invariant moment early
-    c.due_count-count.result counted c.deref-4.result.now (c.deref-4.ensures.value ∙ e) in
-    let more : room ≤ vec_capacity c.drop_front.new.order = omega (arith, c.drop_front.ensures.room) in
-    rw (left, c.drop_front.ensures.order)
-    (kept_by rank q.dues.items q.order.items room c.self.invariant moment early c.due_count-count.result counted
-    (vec_capacity c.drop_front.new.order) more)
+    let moment = rank c.args.moment.now in
+    let less = set_less l.self entry next.is_set in
+    let same = ap (λ ds. set_count ds) c.clear.ensures.dues in
+    let items : c.push.new.self.items ≡ l.due.items ++ entry ∷ [] = search rules in
+    let longer : length c.push.new.self.items ≡ length l.due.items + 1 = ap length items ∙ length-append l.due.items (entry ∷ []) in
+    let grow = digits_grow (max (set_count l.self) (set_count c.clear.new.self)) (set_count c.args.self.now)
+    (omega (arith, less, same, l.invariant.counted)) in
+    record {
+      early = rw c.clear.ensures.dues next.early;
+      due = rw (items, c.clear.ensures.dues)
+          (append_assoc l.due.items (entry ∷ []) _ ∙ (ap (λ xs. l.due.items ++ xs) (sym next.first) ∙ l.invariant.due));
+      left = rw c.clear.ensures.dues (next.left ∙ l.invariant.left);
+      counted = omega (arith, less, same, longer, l.invariant.counted);
+      room = omega (arith, l.invariant.room, c.push.ensures.capacity);
+      later = omega arith;
+      cost = cost_more (length l.due.items) (length c.push.new.self.items) (binary_digits (set_count c.args.self.now))
+          (binary_digits (max (set_count l.self) (set_count c.clear.new.self)))
+          (g.J.Judge.count c.args.judge.now) (g.J.Judge.count l.judge) (g.J.Judge.count c.next_due.new.judge)
+          (g.J.Judge.count c.clear.new.judge)
+          longer l.invariant.cost c.next_due.ensures.cost c.clear.ensures.cost grow;
+    }
 
-pub returns-clause-due : goal.returns-clause-due
-returns-clause-due g c =
-    let q = c.self.inside in
-    let rank = g.D.Due.rank in
-    let moment = g.D.Due.rank c.args.moment.now in
-    let early = subst (λ ds. NoneBefore rank moment ds) (sym c.self.view_is) c.requires in
-    let counted : c.due_count-count.result ≡ front_at (rank_of rank q.dues.items) moment q.order.items =
-    rw (c.deref.ensures.value, c.deref-2.ensures.value) at c.due_count-count.ensures.due in
-    let e : c.in_ok-due.due.items ≡ take c.due_count-count.result q.order.items = rw c.deref-3.ensures.value at c.in_ok-due.ensures in
-    c.of.ensures ∙ (taken_by rank q.dues.items q.order.items (vec_capacity q.order) c.self.invariant moment early
-    c.due_count-count.result counted c.in_ok-due.due.items e ∙ ap (λ ds. entries_at rank moment ds) c.self.view_is)
-
-pub returns-clause-left : goal.returns-clause-left
-returns-clause-left g c =
-    let q = c.self.inside in
-    let rank = g.D.Due.rank in
-    let moment = g.D.Due.rank c.args.moment.now in
-    let early = subst (λ ds. NoneBefore rank moment ds) (sym c.self.view_is) c.requires in
-    let counted : c.due_count-count.result ≡ front_at (rank_of rank q.dues.items) moment q.order.items =
-    rw (c.deref.ensures.value, c.deref-2.ensures.value) at c.due_count-count.ensures.due in
-    let e : c.in_ok-due.due.items ≡ take c.due_count-count.result q.order.items = rw c.deref-3.ensures.value at c.in_ok-due.ensures in
-    c.clear_each.ensures ∙ (left_by rank q.dues.items q.order.items (vec_capacity q.order) c.self.invariant moment early
-    c.due_count-count.result counted c.deref-4.result.now (c.deref-4.ensures.value ∙ e)
-    ∙ ap (λ ds. dues_behind rank moment ds) c.self.view_is)
+pub returns-clause-cost : goal.returns-clause-cost
+returns-clause-cost g c =
+    let l = c.loop-entry in
+    let all = cost_all (length l.due.items) (binary_digits (set_count c.args.self.now)) in
+    let long : length c.of.result ≡ length l.due.items = ap length c.of.ensures in
+    rw long (omega (arith, all, l.invariant.cost, c.next_due.ensures.cost))
