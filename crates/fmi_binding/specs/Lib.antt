@@ -4,4 +4,5 @@ pub mod States
 pub mod Coming
 pub mod Arguments
 pub mod Ecus
+pub mod Images
 pub mod Laws

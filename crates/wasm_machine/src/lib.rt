@@ -21,3 +21,4 @@ pub use instance::Instance;
 pub use misfit::fits;
 pub use outcome::Outcome;
 pub use stack::Stack;
+pub use state::suits;
