@@ -1,9 +1,11 @@
 -- One unit more, which owns parts that weren't there.
-use Rattle.std.proofs.Common.{◌≡◌, ◌<◌, ◌⊎◌, ℕ, zero, suc, List, [], ◌∷◌, ◌++◌, length, map, Option, Some, None, slice_get, sym, ap, ◌∙◌, subst, refl, arith, inl, inr}
+use Rattle.std.proofs.Common.{◌≡◌, ◌+◌, ◌⊎◌, ℕ, zero, suc, List, [], ◌∷◌, ◌++◌, length, map, Option, Some, None, slice_get, sym, ap, ◌∙◌, subst, refl, arith, inl, inr}
 use Rattle.std.proofs.lemmas.List.{map-append}
 use Rattle.fmi_states.specs.declared.ecu.Ecu.{Ghosts}
-use Rattle.fmi_states.specs.Parts.{Among, AreDisjoint, Spares, Shares}
+use Rattle.fmi_states.specs.Parts.{Among, Spares, Shares}
+use Rattle.world_core.specs.Owners.{owns, owners}
 use Rattle.world_core.specs.Units.{AreApart, states_of}
+use Rattle.world_core.proofs.Counting.{owners-append, owns-one, owns-or-not}
 
 -- who stands in a list with one more: one that stood there before, or the last
 which : {X : Type 0} (xs : List X) (x y : X) (i : ℕ) → slice_get (xs ++ x ∷ []) i ≡ Some y
@@ -20,6 +22,16 @@ module _ {E G S : Type 0} (g : Ghosts E G S)
   -- what a unit owns isn't the new one's
   others : (d e : E) (s : G) → g.is_in d s → ((p : ℕ) → Among p (g.parts e) → g.part p s ≡ None) → (p : ℕ) → Among p (g.parts d) → ¬ Among p (g.parts e)
   others d e s here fresh p own new = is-there d s p here own (fresh p new)
+
+  -- no unit owns a part that isn't there
+  unowned : (es : List E) (s : G) (p : ℕ) → ((i : ℕ) (d : E) → slice_get es i ≡ Some d → g.is_in d s) → g.part p s ≡ None → owners p (map g.parts es) ≡ 0
+  unowned [] s p here gone = refl
+  unowned (d ∷ es) s p here gone =
+      let rest = unowned es s p (λ i. here (suc i)) gone in
+      elim (owns-or-not p (g.parts d)) [
+        | inl own ↦ absurd (is-there d s p (here 0 d refl) own gone)
+        | inr not ↦ omega (arith, rest, not)
+      ]
 
   shares : (d e : E) (s t : G) → g.is_in d s → ((p : ℕ) → Among p (g.parts e) → g.part p s ≡ None) → Spares g.part (g.parts e) s t → Shares g.part (g.parts d) s t
   shares d e s t here fresh spares = λ p own. spares.each p (others d e s here fresh p own)
@@ -42,14 +54,13 @@ module _ {E G S : Type 0} (g : Ghosts E G S)
       | inl q ↦ stays-in d s t (apart.here i d q) (shares d e s t (apart.here i d q) fresh spares)
       | inr q ↦ subst (λ x. g.is_in x t) q.1 here
     ];
-    apart = λ i j c d hi hj ne. elim (which es e c i hi) [
-      | inl p ↦ elim (which es e d j hj) [
-        | inl q ↦ apart.apart i j c d p q ne
-        | inr q ↦ record { each = λ k own other. others c e s (apart.here i c p) fresh k own (subst (λ x. Among k (g.parts x)) (sym q.1) other) }
-      ]
-      | inr p ↦ elim (which es e d j hj) [
-        | inl q ↦ record { each = λ k own other. others d e s (apart.here j d q) fresh k other (subst (λ x. Among k (g.parts x)) (sym p.1) own) }
-        | inr q ↦ absurd (ne (p.0 ∙ sym q.0))
-      ]
-    ];
+    apart = λ p.
+        let more : owners p (map g.parts (es ++ e ∷ [])) ≡ owners p (map g.parts es) + (owns p (g.parts e) + 0) =
+        ap (owners p) (map-append g.parts es (e ∷ [])) ∙ owners-append p (map g.parts es) (g.parts e ∷ []) in
+        let before = apart.apart p in
+        let one = owns-one p (g.parts e) in
+        elim (owns-or-not p (g.parts e)) [
+          | inl own ↦ (let none = unowned es s p apart.here (fresh p own) in omega (arith, more, none, one))
+          | inr not ↦ omega (arith, more, before, not)
+        ];
   }

@@ -45,7 +45,7 @@ pub fn open_world(
     requires plan { IsPlan plan }
     requires each { length codes.items ≡ length plan.nodes }
     requires units { All IsUnitCode codes.items }
-    ensures { IfOk result (λ world. world ≡ opened plan (opening_states plan.fuel codes.items plan.nodes) world.shared) }
+    ensures { IfOk result (λ world. world ≡ opened plan (opening_states plan.fuel codes.items plan.nodes) world.parts world.shared) }
 {
     let mut shared = Guests::new(alloc)?;
     let ecus = guests_of(alloc, &mut shared, plan.fuel, codes, &plan.nodes)?;

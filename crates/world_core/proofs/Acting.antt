@@ -1,5 +1,5 @@
 -- An event on one bus: what its bus needs, and what the network keeps behind it.
-use Rattle.std.proofs.Common.{◌≡◌, ◌≤◌, ◌<◌, ◌+◌, ◌^◌, ℕ, Bool, false, List, All, Some, arith, sym, refl, ap, ◌∙◌, subst}
+use Rattle.std.proofs.Common.{◌≡◌, ◌≤◌, ◌<◌, ◌+◌, ◌^◌, ℕ, Bool, false, List, All, Some, map, arith, sym, refl, ap, ◌∙◌, subst}
 use Rattle.bus_specs.specs.Bus.{Bus}
 use Rattle.bus_sound.proofs.Lists.{each-All, All-each}
 use Rattle.fmi_states.specs.declared.ecu.Ecu.{Ghosts}
@@ -12,9 +12,9 @@ use Rattle.world_core.specs.Kept.{IsKept}
 use Rattle.world_core.specs.Seen.{Seen}
 use Rattle.world_core.specs.Units.{states_of}
 
--- what is seen of a course with the units' states
-abbrev pub seen : {S G : Type 0} → Course → List S → G → Bool → Seen S G
-seen c states shared failed = record { plan = c.plan; network = network_of c states; units = states; shared = shared; failed = failed }
+-- what is seen of a course with the units' states and parts
+abbrev pub seen : {S G : Type 0} → Course → List S → List (List ℕ) → G → Bool → Seen S G
+seen c states parts shared failed = record { plan = c.plan; network = network_of c states; units = states; parts = parts; shared = shared; failed = failed }
 
 -- an event happened that left these buses
 abbrev pub behind : Course → List Bus → ℕ → Course
@@ -25,7 +25,7 @@ pub counts : (c after next : Course) (bs : List Bus) (moment : ℕ) → after �
 counts c after next bs moment e f = rw (f, e) refl
 
 module _ {E G S : Type 0} (g : Ghosts E G S) (c : Course) (es : List E) (shared : G) (failed : Bool) (x : Seen S G)
-    (is : seen c (states_of g es shared) shared failed ≡ x) where
+    (is : seen c (states_of g es shared) (map g.parts es) shared failed ≡ x) where
   pub on-course : (e : Event) → next_event x.plan.stop x.network ≡ Some e → next_event c.plan.stop (network_of c (states_of g es shared)) ≡ Some e
   on-course e n = subst (λ (y : Seen S G). next_event y.plan.stop y.network ≡ Some e) (sym is) n
 

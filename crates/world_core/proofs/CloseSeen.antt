@@ -85,29 +85,39 @@ module _ {E G S : Type 0} (g : Ghosts E G S) (c : Course) (es : List E) (shared 
       })
 
   -- what is seen
-  pub closed-seen : (failed : Bool) (x : Seen S G) → seen c (states_of g es shared) shared failed ≡ x → x.failed ≡ false
+  pub closed-seen : (failed : Bool) (x : Seen S G) → seen c (states_of g es shared) (map g.parts es) shared failed ≡ x → x.failed ≡ false
+      → map g.parts es' ≡ map g.parts es
       → states_of g es' shared' ≡ units_closed (units_of g.answer g.phase_of left.plan) (network_of left (states_of g es shared)).nodes (states_of g es shared)
-      → seen after (states_of g es' shared') shared' false ≡ record x {
+      → seen after (states_of g es' shared') (map g.parts es') shared' false ≡ record x {
         network = network_closed (units_of g.answer g.phase_of x.plan) x.network;
         units = units_closed (units_of g.answer g.phase_of x.plan) x.network.nodes x.units;
         shared = shared';
       }
-  closed-seen failed x is ok states =
+  closed-seen failed x is ok parts states =
       let w : World S = network_of c (states_of g es shared) in
       let here : failed ≡ false = ap (λ (y : Seen S G). y.failed) is ∙ ok in
       let units = states ∙ ap (λ (y : Course). units_closed (units_of g.answer g.phase_of y.plan) (network_of y (states_of g es shared)).nodes (states_of g es shared)) leaves in
-      subst (λ (y : Seen S G). seen after (states_of g es' shared') shared' false ≡ record y {
+      subst (λ (y : Seen S G). seen after (states_of g es' shared') (map g.parts es') shared' false ≡ record y {
         network = network_closed (units_of g.answer g.phase_of y.plan) y.network;
         units = units_closed (units_of g.answer g.phase_of y.plan) y.network.nodes y.units;
         shared = shared';
       }) is
-      (ap (λ p. record { plan = p; network = network_of after (states_of g es' shared'); units = states_of g es' shared'; shared = shared'; failed = false }) plan-is
-      ∙ ap (λ n. record { plan = c.plan; network = n; units = states_of g es' shared'; shared = shared'; failed = false }) network-is
-      ∙ ap (λ us. record { plan = c.plan; network = network_closed (units_of g.answer g.phase_of c.plan) w; units = us; shared = shared'; failed = false }) units
+      (ap (λ p. record { plan = p; network = network_of after (states_of g es' shared'); units = states_of g es' shared'; parts = map g.parts es'; shared = shared'; failed = false }) plan-is
+      ∙ ap (λ n. record { plan = c.plan; network = n; units = states_of g es' shared'; parts = map g.parts es'; shared = shared'; failed = false }) network-is
+      ∙ ap (λ us. record { plan = c.plan; network = network_closed (units_of g.answer g.phase_of c.plan) w; units = us; parts = map g.parts es'; shared = shared'; failed = false }) units
+      ∙ ap (λ ps. record {
+        plan = c.plan;
+        network = network_closed (units_of g.answer g.phase_of c.plan) w;
+        units = units_closed (units_of g.answer g.phase_of c.plan) w.nodes (states_of g es shared);
+        parts = ps;
+        shared = shared';
+        failed = false;
+      }) parts
       ∙ ap (λ q. record {
         plan = c.plan;
         network = network_closed (units_of g.answer g.phase_of c.plan) w;
         units = units_closed (units_of g.answer g.phase_of c.plan) w.nodes (states_of g es shared);
+        parts = map g.parts es;
         shared = shared';
         failed = q;
       }) (sym here))

@@ -86,7 +86,7 @@ shut-standing (session.Down why) s cs = refl
 module _ {E G S : Type 0} (g : Ghosts E G S) (k : ℕ) (old after : Course) (ts : List Standing) (cs : List (Option ℕ)) (before es es' : List E) (first shared shared' : G) (ls ls' : List Line)
     (inside : k < length old.plan.nodes) (w : IsClosing g k old (record old { standings = ts; clocks = cs }) before es first shared ls) (n : NodePlan) (t : Standing) (s : S)
     (plan : slice_get old.plan.nodes k ≡ Some n) (standing : slice_get ts k ≡ Some t) (state : slice_get (states_of g es shared) k ≡ Some s)
-    (held : IsHeld g after es' shared') where
+    (held : IsHeld g after es' shared') (parts : map g.parts es' ≡ map g.parts es) where
   node-there : slice_get (nodes_from 0 old.plan.nodes ts (states_of g es shared) cs) k ≡ Some (node_of k n t s (drop (k * 8) cs))
   node-there =
       let z : 0 + k ≡ k = omega arith in
@@ -101,6 +101,7 @@ module _ {E G S : Type 0} (g : Ghosts E G S) (k : ℕ) (old after : Course) (ts 
       record {
         held = held;
         stays = a ∙ ap (λ (c : Course). record old { standings = c.standings; clocks = c.clocks }) (sym a);
+        parts = parts ∙ w.parts;
         so_far = closed-one (units_of g.answer g.phase_of old.plan) old.now k (network_of old (states_of g before first)).nodes ns (network_of after (states_of g es' shared')).nodes
             (states_of g before first) (states_of g es shared) (states_of g es' shared') X s node-there state
             (ap (λ (c : Course). (network_of c (states_of g es' shared')).nodes) a ∙ ap (λ ss. nodes_from 0 old.plan.nodes ts ss cs) m ∙ sym (set-same ns k X node-there)
@@ -143,6 +144,7 @@ module _ {E G S : Type 0} (g : Ghosts E G S) (k : ℕ) (old after : Course) (ts 
       record {
         held = held;
         stays = h.course ∙ ap (λ (c : Course). record old { standings = c.standings; clocks = c.clocks }) (sym h.course);
+        parts = parts ∙ w.parts;
         so_far = closed-one (units_of g.answer g.phase_of old.plan) old.now k (network_of old (states_of g before first)).nodes ns (network_of after (states_of g es' shared')).nodes
             (states_of g before first) ss (states_of g es' shared') X s node-there state moved
             (behind ∙ ap (λ o. slice_set ss k (state_behind s o)) (sym its))
@@ -159,7 +161,7 @@ module _ {E G S : Type 0} (g : Ghosts E G S) (k : ℕ) (old after : Course) (ts 
   by-end true None l h x = absurd h
 
 module _ {E G S : Type 0} (g : Ghosts E G S) (k : ℕ) (old after : Course) (before es es' : List E) (first shared shared' : G) (ls ls' : List Line) (end : Option End)
-    (inside : k < length old.plan.nodes) (held : IsHeld g after es' shared') (more : ls' ≡ ls ++ lines_of_end old.now k end) where
+    (inside : k < length old.plan.nodes) (held : IsHeld g after es' shared') (parts : map g.parts es' ≡ map g.parts es) (more : ls' ≡ ls ++ lines_of_end old.now k end) where
   abbrev Shut-at : Course → Type 0
   Shut-at c = (n : NodePlan) (t : Standing) → slice_get c.plan.nodes k ≡ Some n → slice_get c.standings k ≡ Some t → Shuts g k n (is_live t) end c after (states_of g es shared) (states_of g es' shared')
 
@@ -171,7 +173,7 @@ module _ {E G S : Type 0} (g : Ghosts E G S) (k : ℕ) (old after : Course) (bef
       let b = at-place ts k (omega (arith, inside, many)) in
       let units : length es ≡ length old.plan.nodes = (w.held).each in
       let e = at-place es k (omega (arith, inside, units)) in
-      by-end g k old after ts cs before es es' first shared shared' ls ls' inside w a.item b.item (g.state e.item shared) a.here b.here (state-at g es shared k e.item e.here) held
+      by-end g k old after ts cs before es es' first shared shared' ls ls' inside w a.item b.item (g.state e.item shared) a.here b.here (state-at g es shared k e.item e.here) held parts
       (is_live b.item) end refl (shuts a.item b.item a.here b.here) more
 
   pub close-on : (c : Course) → IsClosing g k old c before es first shared ls → Shut-at c → IsClosing g (k + 1) old after before es' first shared' ls'
@@ -185,6 +187,7 @@ pub close-begins : {E G S : Type 0} (g : Ghosts E G S) (old : Course) (before : 
 close-begins g old before first ls held none = record {
   held = held;
   stays = refl;
+  parts = refl;
   so_far = record {
     nodes = refl;
     states = refl;

@@ -270,6 +270,6 @@ pub in-time : (stop : ℕ) (e : Event) → e.moment ≤ stop → up_to stop (Som
 in-time stop e l = rw (le-leb e.moment stop l) refl
 
 pub seen-next : {E G S : Type 0} (g : Ghosts E G S) (c : Course) (es : List E) (shared : G) (failed : Bool) (x : Seen S G)
-    → record { plan = c.plan; network = network_of c (states_of g es shared); units = states_of g es shared; shared = shared; failed = failed } ≡ x
+    → record { plan = c.plan; network = network_of c (states_of g es shared); units = states_of g es shared; parts = map g.parts es; shared = shared; failed = failed } ≡ x
     → IsKept g c es shared → (o : Option Event) → o ≡ up_to c.plan.stop (first_event c) → o ≡ next_event x.plan.stop x.network
 seen-next {E} {G} {S} g c es shared failed x e kept o h = subst (λ (y : Seen S G). o ≡ next_event y.plan.stop y.network) e (h ∙ first-next g c es shared kept)

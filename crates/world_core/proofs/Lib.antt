@@ -20,6 +20,7 @@ pub mod Calls
 pub mod Inputs
 pub mod TurnSteps
 pub mod TurnSeen
+pub mod Counting
 pub mod Moved
 pub mod Seating
 pub mod NodeSteps

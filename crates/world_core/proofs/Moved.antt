@@ -2,9 +2,11 @@
 use Rattle.std.proofs.Common.{◌≡◌, ◌<◌, ◌⊎◌, ℕ, zero, suc, List, [], ◌∷◌, length, Option, Some, None, slice_get, slice_set, option_map, ap, sym, ◌∙◌, subst, refl, arith, inl, inr}
 use Rattle.std.proofs.lemmas.Option.{slice_get_within}
 use Rattle.fmi_states.specs.declared.ecu.Ecu.{Ghosts}
-use Rattle.fmi_states.specs.Parts.{Among, Spares, Shares}
+use Rattle.fmi_states.specs.Parts.{Spares, Shares}
 use Rattle.world_laws.proofs.Lists.{get-map}
+use Rattle.world_core.specs.Owners.{EachHasOneOwner}
 use Rattle.world_core.specs.Units.{AreApart, states_of}
+use Rattle.world_core.proofs.Counting.{among-owns, parts-set, two-within}
 
 -- ---- lists by their places
 
@@ -46,7 +48,12 @@ module _ {E G S : Type 0} (g : Ghosts E G S)
     (stays : (e : E) (s t : G) → g.is_in e s → Shares g.part (g.parts e) s t → g.state e t ≡ g.state e s) where
   shares : (es : List E) (i k : ℕ) (d e : E) (s t : G) → AreApart g es s → slice_get es i ≡ Some d → slice_get es k ≡ Some e → (i ≡ k → ⊥)
       → Spares g.part (g.parts e) s t → Shares g.part (g.parts d) s t
-  shares es i k d e s t apart gi gk ne spares = λ p own. spares.each p (λ other. (apart.apart i k d e gi gk ne).each p own other)
+  shares es i k d e s t apart gi gk ne spares = λ p own. spares.each p (λ other.
+      let two = two-within g.parts p es i k d e gi gk ne in
+      let one = apart.apart p in
+      let a = among-owns p (g.parts d) own in
+      let b = among-owns p (g.parts e) other in
+      omega (arith, two, one, a, b))
 
   -- the states elsewhere are as they were
   pub states-set : (es : List E) (k : ℕ) (e after : E) (s t : G) → AreApart g es s → slice_get es k ≡ Some e → Spares g.part (g.parts e) s t
@@ -88,15 +95,6 @@ module _ {E G S : Type 0} (g : Ghosts E G S)
       inside : (x y : E) → Some x ≡ Some y → x ≡ y
       inside x y q = cc
 
-  -- the parts at a place are those of a unit that stood there
-  was : (es : List E) (k i : ℕ) (e after d : E) → slice_get es k ≡ Some e → g.parts after ≡ g.parts e → slice_get (slice_set es k after) i ≡ Some d
-      → (b : E) × (slice_get es i ≡ Some b) × (g.parts d ≡ g.parts b)
-  was es k i e after d gk same h =
-      elim (which es k i e after d gk h) [
-        | inl p ↦ (e, ap (slice_get es) p.0 ∙ gk, sym (ap g.parts p.1) ∙ same)
-        | inr p ↦ (d, p.1, refl)
-      ]
-
   pub apart-stays : (es : List E) (k : ℕ) (e after : E) (s t : G) → AreApart g es s → slice_get es k ≡ Some e → Spares g.part (g.parts e) s t
       → g.parts after ≡ g.parts e → g.is_in after t → AreApart g (slice_set es k after) t
   apart-stays es k e after s t apart gk spares same here = record {
@@ -104,10 +102,7 @@ module _ {E G S : Type 0} (g : Ghosts E G S)
       | inl p ↦ subst (λ x. g.is_in x t) p.1 here
       | inr p ↦ stays-in d s t (apart.here i d p.1) (shares es i k d e s t apart p.1 gk p.0 spares)
     ];
-    apart = λ i j c d gi gj ne.
-        let b = was es k i e after c gk same gi in
-        let a = was es k j e after d gk same gj in
-        record { each = λ p own other. (apart.apart i j b.0 a.0 b.1 a.1 ne).each p (subst (Among p) b.2 own) (subst (Among p) a.2 other) };
+    apart = subst EachHasOneOwner (sym (parts-set g.parts es k e after gk same)) apart.apart;
   }
 
 -- the unit at a place has the state at that place

@@ -126,7 +126,7 @@ all-push P (y ∷ ys) x p h = All-cons P y (ys ++ x ∷ []) (All-head P y ys h) 
 module _ {E G S : Type 0} (g : Ghosts E G S) (now k : ℕ) (old after : Course) (ts : List Standing) (cs : List (Option ℕ)) (before es es' : List E) (first shared shared' : G) (xs xs' : List Turn)
     (inside : k < length old.plan.nodes) (w : IsWalking g now k old (record old { standings = ts; clocks = cs }) before es first shared xs) (n : NodePlan) (t : Standing) (s : S)
     (plan : slice_get old.plan.nodes k ≡ Some n) (standing : slice_get ts k ≡ Some t) (state : slice_get (states_of g es shared) k ≡ Some s)
-    (held : IsHeld g after es' shared') (lasts : LastsAreBy now after.standings) where
+    (held : IsHeld g after es' shared') (lasts : LastsAreBy now after.standings) (parts : map g.parts es' ≡ map g.parts es) where
   u : Units S
   u = units_of g.answer g.phase_of old.plan
 
@@ -145,6 +145,7 @@ module _ {E G S : Type 0} (g : Ghosts E G S) (now k : ℕ) (old after : Course) 
         held = held;
         lasts = lasts;
         stays = a ∙ ap (λ (c : Course). record old { standings = c.standings; clocks = c.clocks }) (sym a);
+        parts = parts ∙ w.parts;
         there = subst (All (λ (x : Turn). x.node < length old.plan.nodes)) (sym (append-nil xs) ∙ sym x) w.there;
         walked = walk (units_of g.answer g.phase_of old.plan) old.buses now k old.plan.nodes (network_of old (states_of g before first)).nodes ns (network_of after (states_of g es' shared')).nodes
             (states_of g before first) (states_of g es shared) (states_of g es' shared') X s node-there state
@@ -202,6 +203,7 @@ module _ {E G S : Type 0} (g : Ghosts E G S) (now k : ℕ) (old after : Course) 
         held = held;
         lasts = lasts;
         stays = h.course ∙ ap (λ (c : Course). record old { standings = c.standings; clocks = c.clocks }) (sym h.course);
+        parts = parts ∙ w.parts;
         there = subst (All (λ (y : Turn). y.node < length old.plan.nodes)) (sym x)
             (all-push (λ (y : Turn). y.node < length old.plan.nodes) xs turn (omega (arith, inside, h.number)) w.there);
         walked = walk (units_of g.answer g.phase_of old.plan) old.buses now k old.plan.nodes (network_of old (states_of g before first)).nodes ns (network_of after (states_of g es' shared')).nodes
@@ -223,7 +225,7 @@ module _ {E G S : Type 0} (g : Ghosts E G S) (now k : ℕ) (old after : Course) 
   by-call (Some call) None e h x = absurd h
 
 module _ {E G S : Type 0} (g : Ghosts E G S) (now k : ℕ) (old after : Course) (before es es' : List E) (first shared shared' : G) (xs xs' : List Turn) (turn : Option Turn)
-    (inside : k < length old.plan.nodes) (held : IsHeld g after es' shared') (lasts : LastsAreBy now after.standings) (more : xs' ≡ xs ++ cons_option turn []) where
+    (inside : k < length old.plan.nodes) (held : IsHeld g after es' shared') (lasts : LastsAreBy now after.standings) (parts : map g.parts es' ≡ map g.parts es) (more : xs' ≡ xs ++ cons_option turn []) where
   abbrev Sat-at : Course → Type 0
   Sat-at c = (n : NodePlan) (t : Standing) → slice_get c.plan.nodes k ≡ Some n → slice_get c.standings k ≡ Some t
       → Sits g now k n (call_of c.buses c.plan.resolution now k n t (drop (k * 8) c.clocks)) turn c after (states_of g es shared) (states_of g es' shared')
@@ -236,7 +238,7 @@ module _ {E G S : Type 0} (g : Ghosts E G S) (now k : ℕ) (old after : Course) 
       let b = at-place ts k (omega (arith, inside, many)) in
       let units : length es ≡ length old.plan.nodes = (w.held).each in
       let e = at-place es k (omega (arith, inside, units)) in
-      by-call g now k old after ts cs before es es' first shared shared' xs xs' inside w a.item b.item (g.state e.item shared) a.here b.here (state-at g es shared k e.item e.here) held lasts
+      by-call g now k old after ts cs before es es' first shared shared' xs xs' inside w a.item b.item (g.state e.item shared) a.here b.here (state-at g es shared k e.item e.here) held lasts parts
       (call_of old.buses old.plan.resolution now k a.item b.item (drop (k * 8) cs)) turn refl (sits a.item b.item a.here b.here) more
 
   pub walk-on : (c : Course) → IsWalking g now k old c before es first shared xs → Sat-at c → IsWalking g now (k + 1) old after before es' first shared' xs'
@@ -252,6 +254,7 @@ walk-begins g now old before first xs held lasts none = record {
   held = held;
   lasts = lasts;
   stays = refl;
+  parts = refl;
   there = subst (All (λ (y : Turn). y.node < length old.plan.nodes)) (sym none) (All-nil (λ (y : Turn). y.node < length old.plan.nodes));
   walked = record {
     nodes = refl;

@@ -114,13 +114,13 @@ course-opens resolution stop budget fuel ss ns bs ts cs e f h = rw (e, f, h, pla
 pub opens : {S : Type 0} (p : Plan) (states : List S) → network_of (opening_course p) states ≡ opening_of p states
 opens p states = ap (λ nodes. record { events = 0; now = 0; buses = map (λ b. new_bus b.setup b.members) p.buses; nodes = nodes }) (all-new 0 p.nodes states)
 
-abbrev seen : {S G : Type 0} → List S → G → Plan → World S → Seen S G
-seen states shared plan network = record { plan = plan; network = network; units = states; shared = shared; failed = false }
+abbrev seen : {S G : Type 0} → List S → List (List ℕ) → G → Plan → World S → Seen S G
+seen states parts shared plan network = record { plan = plan; network = network; units = states; parts = parts; shared = shared; failed = false }
 
-pub world-opens : {S G : Type 0} (c : Course) (p : Plan) (states : List S) (shared : G) → c ≡ opening_course p
-    → record { plan = c.plan; network = network_of c states; units = states; shared = shared; failed = false } ≡ opened p states shared
-world-opens c p states shared e =
-    subst (λ x. seen states shared x.plan (network_of x states) ≡ opened p states shared) (sym e) (ap (seen states shared p) (opens p states))
+pub world-opens : {S G : Type 0} (c : Course) (p : Plan) (states : List S) (parts : List (List ℕ)) (shared : G) → c ≡ opening_course p
+    → record { plan = c.plan; network = network_of c states; units = states; parts = parts; shared = shared; failed = false } ≡ opened p states parts shared
+world-opens c p states parts shared e =
+    subst (λ x. seen states parts shared x.plan (network_of x states) ≡ opened p states parts shared) (sym e) (ap (seen states parts shared p) (opens p states))
 
 module _ {E G S : Type 0} (g : Ghosts E G S) (shared : G) where
   fresh-pairs : (es : List E) (n : ℕ) → length es ≡ n → ((e : E) → Among es e → g.phase_of (g.state e shared) ≡ Fresh)

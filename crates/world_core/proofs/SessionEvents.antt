@@ -1,5 +1,5 @@
 -- The sessions of a moment: what they need of the network, and what it keeps behind them.
-use Rattle.std.proofs.Common.{◌≡◌, ◌≤◌, ◌<◌, ◌+◌, ◌*◌, ℕ, List, [], ◌∷◌, All, Option, Some, drop, take, length, map, arith, sym, ap, ◌∙◌, subst}
+use Rattle.std.proofs.Common.{◌≡◌, ◌≤◌, ◌<◌, ◌+◌, ◌*◌, ℕ, Bool, false, List, [], ◌∷◌, All, Option, Some, drop, take, length, map, arith, sym, ap, ◌∙◌, subst}
 use Rattle.std.proofs.lemmas.List.{length-map}
 use Rattle.std.proofs.lemmas.List.Elements.{All-cons, All-head, All-nil, All-tail}
 use Rattle.fmi_states.specs.declared.ecu.Ecu.{Ghosts}
@@ -10,6 +10,7 @@ use Rattle.world_specs.specs.Next.{Event, Sessions, at, next_event}
 use Rattle.world_specs.specs.Plan.{NodePlan, Plan, units_of}
 use Rattle.world_specs.specs.Sessions.{node_after, turns, turns_step}
 use Rattle.world_specs.specs.Step.{event_lines, world_behind}
+use Rattle.world_specs.specs.Units.{Units}
 use Rattle.world_specs.specs.World.{Node, World}
 use Rattle.world_laws.specs.Words.{AnswersBytes}
 use Rattle.world_laws.proofs.Fitting.{fits-from}
@@ -24,12 +25,15 @@ use Rattle.world_core.specs.Bare.{AreTurns, IsExpected}
 use Rattle.world_core.specs.Courses.{Course, network_of, nodes_from, standing_of}
 use Rattle.world_core.specs.Held.{IsHeld, LastIsBy, LastsAreBy}
 use Rattle.world_core.specs.Kept.{AreUnset, IsKept}
+use Rattle.world_core.specs.Left.{units_after, units_behind}
+use Rattle.world_core.specs.Seen.{Seen}
 use Rattle.world_core.specs.SeenTurns.{seen}
 use Rattle.world_core.specs.Units.{states_of}
 use Rattle.world_core.specs.Walked.{Stays, bare_of}
 use Rattle.world_core.specs.declared.standing.Standing.{Standing}
 use Rattle.world_core.specs.declared.standing.Standing.TheVariants.{New, Live, Down, Over}
 use Rattle.world_core.specs.declared.turns.Turn.{Turn}
+use Rattle.world_core.proofs.Acting as acting
 use Rattle.world_core.proofs.Bareness.{all-expected, turns-fit, turns-same}
 
 -- ---- the nodes of a course
@@ -165,3 +169,51 @@ module _ {E G S : Type 0} (g : Ghosts E G S) (replies : AnswersBytes g.answer) (
         phases = h.phases;
         apart = h.apart;
       })
+
+  -- what is seen behind them
+  pub sessions-seen : (failed : Bool) (x : Seen S G) → acting.seen c (states_of g es shared) (map g.parts es) shared failed ≡ x → x.failed ≡ false
+      → states_of g es' shared' ≡ units_after (units_of g.answer g.phase_of c.plan) c.buses t (network_of c (states_of g es shared)).nodes (states_of g es shared)
+      → map g.parts es' ≡ map g.parts es
+      → acting.seen next (states_of g es' shared') (map g.parts es') shared' false ≡ record x {
+        network = world_behind (units_of g.answer g.phase_of x.plan) x.network (at Sessions t);
+        units = units_behind (units_of g.answer g.phase_of x.plan) x.network (at Sessions t) x.units;
+        shared = shared';
+      }
+  sessions-seen failed x is ok units parts =
+      let w : World S = network_of c (states_of g es shared) in
+      let us : Units S = units_of g.answer g.phase_of c.plan in
+      let here : failed ≡ false = ap (λ (y : Seen S G). y.failed) is ∙ ok in
+      let plan-is : next.plan ≡ c.plan = ap (λ (y : Course). y.plan) course-is in
+      let network-is : network_of next (states_of g es' shared') ≡ world_behind us w (at Sessions t) =
+          ap (λ (y : Course). network_of y (states_of g es' shared')) course-is ∙ network-behind in
+      subst (λ (y : Seen S G). acting.seen next (states_of g es' shared') (map g.parts es') shared' false ≡ record y {
+        network = world_behind (units_of g.answer g.phase_of y.plan) y.network (at Sessions t);
+        units = units_behind (units_of g.answer g.phase_of y.plan) y.network (at Sessions t) y.units;
+        shared = shared';
+      }) is
+      (ap (λ p. record {
+        plan = p;
+        network = network_of next (states_of g es' shared');
+        units = states_of g es' shared';
+        parts = map g.parts es';
+        shared = shared';
+        failed = false;
+      }) plan-is
+      ∙ ap (λ n. record { plan = c.plan; network = n; units = states_of g es' shared'; parts = map g.parts es'; shared = shared'; failed = false }) network-is
+      ∙ ap (λ ss. record { plan = c.plan; network = world_behind us w (at Sessions t); units = ss; parts = map g.parts es'; shared = shared'; failed = false }) units
+      ∙ ap (λ ps. record {
+        plan = c.plan;
+        network = world_behind us w (at Sessions t);
+        units = units_behind us w (at Sessions t) (states_of g es shared);
+        parts = ps;
+        shared = shared';
+        failed = false;
+      }) parts
+      ∙ ap (λ q. record {
+        plan = c.plan;
+        network = world_behind us w (at Sessions t);
+        units = units_behind us w (at Sessions t) (states_of g es shared);
+        parts = map g.parts es;
+        shared = shared';
+        failed = q;
+      }) (sym here))

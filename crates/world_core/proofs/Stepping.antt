@@ -31,6 +31,7 @@ module _ {E G S X : Type 0} (g : Ghosts E G S) where
   happened old new e (Ok lines) goes next behind kept said = record {
     step = step-is (units_of g.answer g.phase_of old.plan) old.plan.stop old.network new.network e lines next (ap (λ (w : Seen S G). w.network) behind) said;
     units = ap (λ (w : Seen S G). w.units) behind;
+    parts = ap (λ (w : Seen S G). w.parts) behind;
     shared = kept;
     plan = ap (λ (w : Seen S G). w.plan) behind;
     goes_on = ap (λ (w : Seen S G). w.failed) behind ∙ goes;

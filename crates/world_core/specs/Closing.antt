@@ -66,5 +66,6 @@ pub record ClosedSoFar {S : Type 0} (u : Units S) (now k : ℕ) (old ns : List (
 pub record IsClosing {E G S : Type 0} (g : Ghosts E G S) (k : ℕ) (old c : Course) (before es : List E) (first shared : G) (ls : List Line) : Type 0 where
   pub held : IsHeld g c es shared
   pub stays : Stays old c
+  pub parts : map g.parts es ≡ map g.parts before
   pub so_far : ClosedSoFar (units_of g.answer g.phase_of old.plan) old.now k
       (network_of old (states_of g before first)).nodes (network_of c (states_of g es shared)).nodes (states_of g before first) (states_of g es shared) ls

@@ -8,10 +8,12 @@ use Rattle.world_specs.specs.Plan.{units_of}
 use Rattle.world_core.specs.Left.{KeepsShared, units_behind}
 use Rattle.world_core.specs.Seen.{Seen}
 
--- The network made its step and gave these lines; each unit is in the state behind its session; all else stays. The world goes on.
+-- The network made its step and gave these lines; each unit is in the state behind its session and owns the parts that it owned; all
+-- else stays. The world goes on.
 pub record Happened {E G S : Type 0} (g : Ghosts E G S) (old : Seen S G) (e : Event) (lines : List Line) (new : Seen S G) : Type 0 where
   pub step : step (units_of g.answer g.phase_of old.plan) old.plan.stop old.network ≡ Some (new.network, lines)
   pub units : new.units ≡ units_behind (units_of g.answer g.phase_of old.plan) old.network e old.units
+  pub parts : new.parts ≡ old.parts
   pub shared : KeepsShared e.what old.shared new.shared
   pub plan : new.plan ≡ old.plan
   pub goes_on : new.failed ≡ false

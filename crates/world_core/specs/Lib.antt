@@ -1,6 +1,7 @@
 pub mod Setups
 pub mod Events
 pub mod Courses
+pub mod Owners
 pub mod Units
 pub mod Seen
 pub mod Kept

@@ -29,11 +29,12 @@ pub record Walked {S : Type 0} (u : Units S) (bs : List Bus) (now k : ℕ) (plan
 abbrev pub Stays : Course → Course → Type 0
 Stays c after = after ≡ record c { standings = after.standings; clocks = after.clocks }
 
--- between the sessions of one moment: so many nodes had theirs
+-- between the sessions of one moment: so many nodes had theirs, and the units own what they owned
 pub record IsWalking {E G S : Type 0} (g : Ghosts E G S) (now k : ℕ) (old c : Course) (before es : List E) (first shared : G) (xs : List Turn) : Type 0 where
   pub held : IsHeld g c es shared
   pub lasts : LastsAreBy now c.standings
   pub stays : Stays old c
+  pub parts : map g.parts es ≡ map g.parts before
   pub there : All (λ x. x.node < length old.plan.nodes) xs
   pub walked : Walked (units_of g.answer g.phase_of old.plan) old.buses now k old.plan.nodes
       (network_of old (states_of g before first)).nodes (network_of c (states_of g es shared)).nodes (states_of g before first) (states_of g es shared) xs

@@ -95,6 +95,7 @@ impl Course {
         requires held { IsHeld E.Ecu self.old ecus.old.items shared.old }
         requires there { node < length self.old.plan.nodes }
         ensures held { OnOk result (IsHeld E.Ecu self.new ecus.new.items shared.new) }
+        ensures parts { OnOk result (map E.parts ecus.new.items ≡ map E.parts ecus.old.items) }
         ensures shuts { IfOk result (λ end. (n : node_plan) (t : standing) → slice_get self.old.plan.nodes node ≡ Some n → slice_get self.old.standings node ≡ Some t
             → model.Shuts E.Ecu node n (model.is_live t) (option_map end_of end) self.old self.new (states_of E.Ecu ecus.old.items shared.old) (states_of E.Ecu ecus.new.items shared.new)) }
         ensures events { self.new.events ≡ self.old.events }
@@ -120,6 +121,7 @@ impl Course {
     ) -> Result<LineList, AllocError>
         requires held { IsHeld E.Ecu self.old ecus.old.items shared.old }
         ensures held { OnOk result (IsHeld E.Ecu self.new ecus.new.items shared.new) }
+        ensures parts { OnOk result (map E.parts ecus.new.items ≡ map E.parts ecus.old.items) }
         ensures stays { OnOk result (Stays self.old self.new) }
         ensures nodes { OnOk result ((network_of self.new (states_of E.Ecu ecus.new.items shared.new)).nodes
             ≡ map (node_closed (units_of E.answer E.phase_of self.old.plan)) (network_of self.old (states_of E.Ecu ecus.old.items shared.old)).nodes) }

@@ -36,6 +36,7 @@ impl Course {
         requires early { now ≤ 2 ^ 62 }
         requires last { LastsAreBy now self.old.standings }
         ensures held { OnOk result (IsHeld E.Ecu self.new ecus.new.items shared.new) }
+        ensures parts { OnOk result (map E.parts ecus.new.items ≡ map E.parts ecus.old.items) }
         ensures last { OnOk result (LastsAreBy now self.new.standings) }
         ensures sits { IfOk result (λ turn. (n : node_plan) (t : standing) → slice_get self.old.plan.nodes node ≡ Some n → slice_get self.old.standings node ≡ Some t
             → Sits E.Ecu now node n (called self.old.buses self.old.plan.resolution now node n t (drop (node * 8) self.old.clocks)) turn self.old self.new
@@ -82,6 +83,7 @@ impl Course {
         requires early { now ≤ 2 ^ 62 }
         requires last { LastsAreBy now self.old.standings }
         ensures held { OnOk result (IsHeld E.Ecu self.new ecus.new.items shared.new) }
+        ensures parts { OnOk result (map E.parts ecus.new.items ≡ map E.parts ecus.old.items) }
         ensures stays { OnOk result (Stays self.old self.new) }
         ensures nodes { OnOk result ((network_of self.new (states_of E.Ecu ecus.new.items shared.new)).nodes
             ≡ map (node_after (units_of E.answer E.phase_of self.old.plan) self.old.buses now) (network_of self.old (states_of E.Ecu ecus.old.items shared.old)).nodes) }

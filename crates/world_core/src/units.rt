@@ -1,5 +1,5 @@
 //! The session and the close of one unit of several over one shared value.
-ghost use Rattle.std.specs.Prelude.{◌≡◌, ◌<◌, IfOk, OnOk, length};
+ghost use Rattle.std.specs.Prelude.{◌≡◌, ◌<◌, IfOk, OnOk, length, map};
 ghost use Rattle.ecu_session.specs.Words.{end_of};
 ghost use Rattle.world_core.specs.Sitting.{Closed, IsInput, MayClose, MaySit, Sat};
 ghost use Rattle.world_core.specs.Units.{AreApart, states_of};
@@ -24,6 +24,7 @@ pub(crate) fn session_at<E: Ecu>(
     requires input { IsInput d.now input.now }
     ensures sat { IfOk result (λ out. Sat E.Ecu d.now input.now place (states_of E.Ecu ecus.old.items shared.old) out (states_of E.Ecu ecus.new.items shared.new)) }
     ensures apart { OnOk result (AreApart E.Ecu ecus.new.items shared.new) }
+    ensures parts { OnOk result (map E.parts ecus.new.items ≡ map E.parts ecus.old.items) }
     ensures each { OnOk result (length ecus.new.items ≡ length ecus.old.items) }
 {
     let ecu = &mut ecus[place as usize];
@@ -43,6 +44,7 @@ pub(crate) fn close_at<E: Ecu>(
     requires may { MayClose E.Ecu place ecus.old.items shared.old }
     ensures closed { IfOk result (λ end. Closed E.Ecu place (states_of E.Ecu ecus.old.items shared.old) (end_of end) (states_of E.Ecu ecus.new.items shared.new)) }
     ensures apart { OnOk result (AreApart E.Ecu ecus.new.items shared.new) }
+    ensures parts { OnOk result (map E.parts ecus.new.items ≡ map E.parts ecus.old.items) }
     ensures each { OnOk result (length ecus.new.items ≡ length ecus.old.items) }
 {
     let ecu = &mut ecus[place as usize];

@@ -1,5 +1,5 @@
 //! A network and its units.
-ghost use Rattle.std.specs.Prelude.{◌≡◌, ◌<◌, All, IfOk, IfSome, OnErr, OnOk, Some, true, false, is_some, length, option_map, slice_get};
+ghost use Rattle.std.specs.Prelude.{◌≡◌, ◌<◌, All, IfOk, IfSome, OnErr, OnOk, Some, true, false, is_some, length, map, option_map, slice_get};
 ghost use Rattle.fmi_states.specs.declared.phase.Phase.TheVariants.{Fresh};
 ghost use Rattle.world_specs.specs.Next.{Finish, Return, Sessions, Start, at, next_event};
 ghost use Rattle.world_specs.specs.Network.{close_lines};
@@ -33,7 +33,7 @@ pub struct World<E: Ecu> {
 }
 
 impl<E: Ecu> Model for World<E> {
-    ghost use Rattle.std.specs.Prelude.{◌≡◌, false};
+    ghost use Rattle.std.specs.Prelude.{◌≡◌, false, map};
     ghost use Rattle.world_core.specs.Courses.{network_of};
     ghost use Rattle.world_core.specs.Kept.{IsKept};
     ghost use Rattle.world_core.specs.Seen.{Seen};
@@ -45,6 +45,7 @@ impl<E: Ecu> Model for World<E> {
       plan = w.course.plan;
       network = network_of w.course (states_of E.Ecu w.ecus.items w.shared);
       units = states_of E.Ecu w.ecus.items w.shared;
+      parts = map E.parts w.ecus.items;
       shared = w.shared;
       failed = w.failed;
     } };
@@ -64,7 +65,7 @@ impl<E: Ecu> World<E> {
         requires each { length ecus.items ≡ length plan.nodes }
         requires fresh { All (λ e. E.phase_of (E.state e shared) ≡ Fresh) ecus.items }
         requires apart { AreApart E.Ecu ecus.items shared }
-        ensures { IfOk result (λ world. world ≡ opened plan (states_of E.Ecu ecus.items shared) shared) }
+        ensures { IfOk result (λ world. world ≡ opened plan (states_of E.Ecu ecus.items shared) (map E.parts ecus.items) shared) }
     {
         let course = Course::opening(alloc, plan)?;
         Ok(World {

@@ -22,6 +22,9 @@ close_node-requires-clause-there g c =
 pub returns-clause-held : goal.returns-clause-held
 returns-clause-held g c = c.loop-node.invariant.held
 
+pub returns-clause-parts : goal.returns-clause-parts
+returns-clause-parts g c = c.loop-node.invariant.parts
+
 pub returns-clause-stays : goal.returns-clause-stays
 returns-clause-stays g c = c.loop-node.invariant.stays
 
@@ -52,6 +55,6 @@ loop-node-preserved g c =
     let end : c.len-node-end.result ≡ c.self.inside.nodes.len = c.len-node-end.ensures in
     let inside : c.loop-node.node < length c.args.self.now.plan.nodes = omega (arith, c.loop-node-test.true, end, c.self.inside.nodes.ok.0, many) in
     close-on g.E.Ecu c.loop-node.node c.args.self.now c.close_node.new.self c.args.ecus.now.items c.loop-node.ecus.items c.close_node.new.ecus.items c.args.shared.now c.loop-node.shared c.close_node.new.shared
-    (map line_of c.loop-node.lines.items) (map line_of c.push_failure.new.lines.items) (option_map end_of c.in_ok-end.end) inside c.in_ok-end.ensures.held
+    (map line_of c.loop-node.lines.items) (map line_of c.push_failure.new.lines.items) (option_map end_of c.in_ok-end.end) inside c.in_ok-end.ensures.held c.in_ok-end.ensures.parts
     (c.in_ok-push_failure.ensures ∙ ap (λ t. map line_of c.loop-node.lines.items ++ lines_of_end t c.loop-node.node (option_map end_of c.in_ok-end.end)) (ap (λ (x : Course). x.now) c.self.view_is))
     c.loop-node.self c.loop-node.invariant c.in_ok-end.ensures.shuts

@@ -38,10 +38,13 @@ loop-node-preserved g c =
       | in_default w ↦ ap (λ (v : Vec Turn Global). v.items) w.turns-is ∙ sym (append-nil c.loop-node.turns.items) ∙ ap (λ o. c.loop-node.turns.items ++ cons_option o []) (sym w.in_default.is)
     ] in
     walk-on g.E.Ecu c.args.now c.loop-node.node c.args.self.now c.sit.new.self c.args.ecus.now.items c.loop-node.ecus.items c.sit.new.ecus.items c.args.shared.now c.loop-node.shared c.sit.new.shared
-    c.loop-node.turns.items c.match-branch-2.turns.items c.in_ok-turn.field-0 inside c.in_ok-turn.ensures.held c.in_ok-turn.ensures.last more c.loop-node.self c.loop-node.invariant c.in_ok-turn.ensures.sits
+    c.loop-node.turns.items c.match-branch-2.turns.items c.in_ok-turn.field-0 inside c.in_ok-turn.ensures.held c.in_ok-turn.ensures.last c.in_ok-turn.ensures.parts more c.loop-node.self c.loop-node.invariant c.in_ok-turn.ensures.sits
 
 pub returns-clause-held : goal.returns-clause-held
 returns-clause-held g c = c.loop-node.invariant.held
+
+pub returns-clause-parts : goal.returns-clause-parts
+returns-clause-parts g c = c.loop-node.invariant.parts
 
 pub returns-clause-stays : goal.returns-clause-stays
 returns-clause-stays g c = c.loop-node.invariant.stays

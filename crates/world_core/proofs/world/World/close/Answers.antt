@@ -14,4 +14,4 @@ returns-clause-state g c =
     let is = c.self.view_is in
     let kept = c.self.invariant (goes-on g.E.Ecu c.self.inside.course c.self.inside.ecus.items c.self.inside.shared c.self.inside.failed c.args.self.now is c.requires.goes_on) in
     closed-seen g.E.Ecu c.self.inside.course c.self.inside.ecus.items c.self.inside.shared kept c.leave_live.new.self c.close_all.new.self c.close_all.new.ecus.items c.close_all.new.shared
-    c.leave_live.ensures c.in_ok-lines.ensures.stays c.in_ok-lines.ensures.nodes c.self.inside.failed c.args.self.now is c.requires.goes_on c.in_ok-lines.ensures.units
+    c.leave_live.ensures c.in_ok-lines.ensures.stays c.in_ok-lines.ensures.nodes c.self.inside.failed c.args.self.now is c.requires.goes_on c.in_ok-lines.ensures.parts c.in_ok-lines.ensures.units
