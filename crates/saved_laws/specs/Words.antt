@@ -10,11 +10,7 @@ use Rattle.wasm_machine.specs.Making.{suits}
 use Rattle.session_specs.specs.Outcome.{Live}
 use Rattle.binding_specs.specs.Guests.{Guest}
 use Rattle.world_specs.specs.Units.{Given, Units}
-use Rattle.world_specs.specs.World.{World}
-use Rattle.world_specs.specs.Plan.{Plan}
-use Rattle.world_specs.specs.Fits.{Fits}
-use Rattle.world_laws.specs.Words.{IsCounted}
-use Rattle.saved_specs.specs.Fit.{most_nodes, IsSuited}
+use Rattle.saved_specs.specs.Fit.{IsSuited}
 
 -- a module that a file spells, that is valid, and whose segments fit
 pub record IsAccepted (m : NestedModule) : Type 0 where
@@ -34,10 +30,3 @@ pub record KeepsSuited (guests : List Guest) (u : Units Guest) : Type 0 where
       → ((u.session node g fresh).0).end ≡ Live → IsSuited fresh (u.session node g fresh).1
   pub later : (node : ℕ) (fresh s : Guest) (g : Given) → slice_get guests node ≡ Some fresh → IsSuited fresh s
       → ((u.session node g s).0).end ≡ Live → IsSuited fresh (u.session node g s).1
-
--- behind so many events at most
-pub record Reached {S : Type 0} (p : Plan) (budget : ℕ) (w : World S) : Type 0 where
-  pub fits : Fits w
-  pub events : w.events ≤ budget
-  pub now : w.now ≤ p.stop
-  pub counted : All (IsCounted most_nodes w.events) w.buses

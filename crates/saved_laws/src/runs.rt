@@ -15,14 +15,7 @@ ghost use Rattle.ideal_specs.specs.Ideal.{guests_from, guest_units, ideal_world}
 ghost use Rattle.state_laws.specs.Words.{SetsWithin, ChangesEach, clocks_in};
 ghost use Rattle.saved_specs.specs.Fit.{AreSuited, Fit};
 ghost use Rattle.saved_laws.specs.Cases.{two_guests};
-ghost use Rattle.saved_laws.specs.Words.{Begins, IsAccepted, KeepsSuited, Reached};
-
-/// A run is behind no more events than it was given, and in every state of it no moment is after the stop, each bus has
-/// had no more attempts than there were events, and has given out no more request numbers than 64 nodes could.
-pub fn each_state_is_reached<S>()
-    ensures reached { (u : Units S) (p : Plan) (states : List S) (k : ℕ) → UnitsFit u → IsPlan p
-        → Reached p k (behind (network u p.stop) k (opening_of p states)) }
-{}
+ghost use Rattle.saved_laws.specs.Words.{Begins, IsAccepted, KeepsSuited};
 
 /// Guests stay suited along a run, if each session leaves them so.
 pub fn guests_stay_suited()

@@ -22,7 +22,9 @@ use Rattle.world_specs.specs.Units.{Units}
 use Rattle.world_specs.specs.Next.{next_event}
 use Rattle.world_specs.specs.Network.{network, step}
 use Rattle.world_specs.specs.Plan.{Plan, opening_of}
-use Rattle.saved_specs.specs.Saved.{MemberImage, BusImage, NodeImage, New, Live, Saved, saved_of}
+use Rattle.bus_images.specs.Images.{MemberImage, BusImage}
+use Rattle.network_images.specs.Images.{NodeImage, New, Live}
+use Rattle.saved_specs.specs.Saved.{GuestImage, Saved, saved_of}
 
 -- ---- a plan: a sender with a clock, and a listener
 
@@ -105,14 +107,14 @@ empty_bus = record {
   members = calm None ∷ calm None ∷ [];
 }
 
-abbrev live : (last : ℕ) → List (Option ℕ) → List ℕ → NodeImage
+abbrev live : (last : ℕ) → List (Option ℕ) → List ℕ → NodeImage GuestImage
 live last clocks moments = Live last clocks (record { area = 8; store = record { bytes = []; globals = moments } })
 
 -- as it opens
 abbrev opened : Saved
 opened = record { events = 0; now = 0; buses = empty_bus ∷ []; nodes = New ∷ New ∷ [] }
 
-abbrev nodes : List NodeImage
+abbrev nodes : List (NodeImage GuestImage)
 nodes = live 0 (Some 500000 ∷ []) (0 ∷ []) ∷ live 0 [] (0 ∷ []) ∷ []
 
 -- behind the first sessions both nodes are live, and the sender's frame waits

@@ -3,6 +3,7 @@ pub mod Events
 pub mod Courses
 pub mod Owners
 pub mod Units
+pub mod Saved
 pub mod Seen
 pub mod Kept
 pub mod First

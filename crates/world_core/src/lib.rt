@@ -6,6 +6,7 @@ mod closing;
 mod course;
 mod event;
 mod happening;
+mod image;
 mod next;
 mod opening;
 mod plan;
@@ -17,5 +18,6 @@ mod units;
 mod world;
 
 pub use event::{Event, What};
+pub use image::{NodeImage, WorldImage};
 pub use plan::{NodePlan, Plan};
 pub use world::World;

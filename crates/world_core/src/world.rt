@@ -1,6 +1,7 @@
 //! A network and its units.
 ghost use Rattle.std.specs.Prelude.{◌≡◌, ◌<◌, All, IfOk, IfSome, OnErr, OnOk, Some, true, false, is_some, length, map, option_map, slice_get};
 ghost use Rattle.fmi_states.specs.declared.phase.Phase.TheVariants.{Fresh};
+ghost use Rattle.network_images.specs.Images.{network_image};
 ghost use Rattle.world_specs.specs.Next.{Finish, Return, Sessions, Start, at, next_event};
 ghost use Rattle.world_specs.specs.Network.{close_lines};
 ghost use Rattle.world_specs.specs.Plan.{IsPlan, units_of};
@@ -13,6 +14,7 @@ ghost use Rattle.world_core.specs.Units.{AreApart, states_of};
 
 use crate::course::Course;
 use crate::event::{Event, What};
+use crate::image::WorldImage;
 use crate::plan::Plan;
 use fmi_states::Ecu;
 use log_lines::LineList;
@@ -115,6 +117,14 @@ impl<E: Ecu> World<E> {
         ensures { result.now ≡ self.now.shared }
     {
         &self.shared
+    }
+
+    /// What is saved of the network, all but its plan and its units.
+    pub fn image(&self, alloc: Global) -> Result<WorldImage, AllocError>
+        requires goes_on { self.now.failed ≡ false }
+        ensures { IfOk result (λ i. i ≡ network_image (λ s. tt) self.now.network) }
+    {
+        self.course.image(alloc)
     }
 
     /// The running frame of a bus comes to its end.
