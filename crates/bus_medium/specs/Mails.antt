@@ -1,4 +1,4 @@
--- What the mail of the code stands for. No public clause cites this file.
+-- What the mail of the code stands for. Public clauses cite this file.
 use Rattle.bus_specs.specs.Bus as model
 use Rattle.bus_medium.specs.declared.mail.Mail.{Mail}
 use Rattle.bus_medium.specs.declared.mail.Mail.TheVariants.{Received, Confirm, BusError}

@@ -2,9 +2,11 @@
 //! access control and fault confinement).
 #![tactic(auto)]
 
+mod copies;
 mod course;
 mod due;
 mod finishing;
+mod image;
 mod inboxes;
 mod lookup;
 mod mail;
@@ -22,5 +24,9 @@ mod submission;
 mod submitting;
 
 pub use due::{Due, What};
+pub use image::{BusImage, MemberImage, RequestImage};
+pub use mail::Mail;
 pub use medium::Medium;
+pub use member::{FormatNotice, LostNotice};
+pub use running::{Fault, Hurt, Running};
 pub use setup::BusSetup;

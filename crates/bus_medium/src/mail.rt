@@ -6,13 +6,14 @@ use can_frame::Frame;
 
 /// What a node is told of a frame.
 #[derive(Drop)]
-pub(crate) enum Mail {
+pub enum Mail {
     /// It received this frame.
     Received(Frame),
     /// Its own frame with this identifier was delivered.
     Confirm(u32),
     /// The attempt with this identifier failed.
     BusError {
+        /// The identifier of the frame.
         id: u32,
         /// 1 bit, 2 stuffing, 3 form, 4 CRC, 5 acknowledgement.
         kind: u8,

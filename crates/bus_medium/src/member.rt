@@ -9,9 +9,11 @@ use std::marker::Model;
 
 /// The notice that arbitration was lost, due at a moment in ticks.
 #[derive(Clone, Copy, Debug, PartialEq, Eq)]
-pub(crate) struct LostNotice {
-    pub(crate) due: u64,
-    pub(crate) id: u32,
+pub struct LostNotice {
+    /// When it is due, in ticks.
+    pub due: u64,
+    /// The identifier of the frame that lost.
+    pub id: u32,
 }
 
 impl Model for LostNotice {
@@ -26,9 +28,11 @@ impl Model for LostNotice {
 
 /// The notice that an operation was bad, due at a moment in ticks, with its first bytes.
 #[derive(Drop)]
-pub(crate) struct FormatNotice {
-    pub(crate) due: u64,
-    pub(crate) bytes: Bytes,
+pub struct FormatNotice {
+    /// When it is due, in ticks.
+    pub due: u64,
+    /// The first bytes of the operation.
+    pub bytes: Bytes,
 }
 
 impl Model for FormatNotice {

@@ -33,7 +33,7 @@ pub(crate) enum Part {
 }
 
 /// Whether a node is among these.
-fn is_among(nodes: &[u32], node: u32) -> bool
+pub(crate) fn is_among(nodes: &[u32], node: u32) -> bool
     ensures { result ≡ among nodes.now node }
 {
     nodes.iter().any(|n| *n == node)

@@ -4,9 +4,11 @@ use std::marker::Model;
 
 /// Why an attempt fails: the kind of error, and the node that detects it.
 #[derive(Clone, Copy, Debug, PartialEq, Eq)]
-pub(crate) struct Fault {
-    pub(crate) kind: u8,
-    pub(crate) by: u32,
+pub struct Fault {
+    /// 1 bit, 2 stuffing, 3 form, 4 CRC, 5 acknowledgement.
+    pub kind: u8,
+    /// The node that detects it.
+    pub by: u32,
 }
 
 impl Model for Fault {
@@ -21,9 +23,11 @@ impl Model for Fault {
 
 /// A passive listener with an error of its own, and the kind of that.
 #[derive(Clone, Copy, Debug, PartialEq, Eq)]
-pub(crate) struct Hurt {
-    pub(crate) node: u32,
-    pub(crate) kind: u8,
+pub struct Hurt {
+    /// The listener.
+    pub node: u32,
+    /// 1 bit, 2 stuffing, 3 form, 4 CRC.
+    pub kind: u8,
 }
 
 impl Model for Hurt {
@@ -38,14 +42,21 @@ impl Model for Hurt {
 
 /// The frame on the wire, with its end in ticks. With no fault it will be delivered.
 #[derive(Drop)]
-pub(crate) struct Running {
-    pub(crate) sender: u32,
-    pub(crate) number: u64,
-    pub(crate) frame: Frame,
-    pub(crate) end: u64,
-    pub(crate) fault: Option<Fault>,
-    pub(crate) hurt: Option<Hurt>,
-    pub(crate) listeners: Numbers,
+pub struct Running {
+    /// The node that sends it.
+    pub sender: u32,
+    /// The number of its request.
+    pub number: u64,
+    /// The frame.
+    pub frame: Frame,
+    /// When it ends, in ticks.
+    pub end: u64,
+    /// Why the attempt fails; none where it doesn't.
+    pub fault: Option<Fault>,
+    /// The listener with an error of its own.
+    pub hurt: Option<Hurt>,
+    /// The other nodes that hear it, rising.
+    pub listeners: Numbers,
 }
 
 impl Model for Running {
