@@ -1,5 +1,6 @@
 -- Members from their images, and images of the members that are made from them.
-use Rattle.std.proofs.Common.{◌≡◌, ℕ, ◌==◌, Bool, true, false, if◌then◌else◌, List, [], ◌∷◌, map, filter_map, length, All, Option, Some, None, arith, sym, refl, ap, ◌∙◌, eq-eqb}
+use Rattle.std.proofs.Common.{◌≡◌, ℕ, ◌==◌, Bool, true, false, if◌then◌else◌, List, [], ◌∷◌, map, filter_map, length}
+use Rattle.std.proofs.Common.{All, Option, Some, None, arith, sym, refl, ap, ◌∙◌, eq-eqb}
 use Rattle.std.proofs.lemmas.Bool.{both_ways, false_from_ne_true, eqb-true}
 use Rattle.std.proofs.lemmas.List.Elements.{All-head, All-tail}
 use Rattle.bus_specs.specs.Bus.{Setup, Bus, Member, among}
@@ -57,7 +58,8 @@ live-told ms last rise m a = go m.live refl
     same x among e = unique (λ (y : Member). y.node) 0 ms x m last rise among a e
 
     go : (b : Bool) → m.live ≡ b → among live m.node ≡ b
-    go true e = any_from (λ n. n == m.node) live m.node (among-filter_map live_node ms m m.node a (live-node m e)) (eq-eqb m.node m.node refl)
+    go true e =
+        any_from (λ n. n == m.node) live m.node (among-filter_map live_node ms m m.node a (live-node m e)) (eq-eqb m.node m.node refl)
     go false e = false_from_ne_true (among live m.node) (λ h.
         let found = any_to (λ n. n == m.node) live h in
         let from = filter_map-among live_node ms found.0 found.1 in
@@ -71,7 +73,8 @@ bus-again b last rise = bus-told b (live_nodes b) (All-each (IsTold (live_nodes 
 
 -- ---- what is made is saved
 
-members-saved : (live nodes : List ℕ) (is : List MemberImage) → length is ≡ length nodes → map member_image (members_from live nodes is) ≡ is
+members-saved : (live nodes : List ℕ) (is : List MemberImage) → length is ≡ length nodes
+    → map member_image (members_from live nodes is) ≡ is
 members-saved live [] [] e = refl
 members-saved live [] (i ∷ is) e = absurd (omega (arith, e))
 members-saved live (n ∷ ns) [] e = absurd (omega (arith, e))
