@@ -35,3 +35,4 @@ pub mod Shutting
 pub mod CloseWalk
 pub mod CloseSeen
 pub mod Stepping
+pub mod Imaging
