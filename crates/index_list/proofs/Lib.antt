@@ -1,0 +1,4 @@
+pub mod Chains
+pub mod Ties
+pub mod Calls
+pub mod Behind
