@@ -15,7 +15,8 @@ ghost use Rattle.ideal_specs.specs.Ideal.{guests_from, guest_units, ideal_world}
 ghost use Rattle.state_laws.specs.Words.{SetsWithin, ChangesEach, clocks_in};
 ghost use Rattle.saved_specs.specs.Fit.{AreSuited, Fit};
 ghost use Rattle.saved_laws.specs.Cases.{two_guests};
-ghost use Rattle.saved_laws.specs.Words.{Begins, IsAccepted, KeepsSuited, Reached};
+ghost use Rattle.guest_laws.specs.Words.{Begins};
+ghost use Rattle.saved_laws.specs.Words.{IsAccepted, KeepsSuited, Reached};
 
 /// A run is behind no more events than it was given, and in every state of it no moment is after the stop, each bus has
 /// had no more attempts than there were events, and has given out no more request numbers than 64 nodes could.
