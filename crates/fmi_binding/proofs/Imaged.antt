@@ -1,15 +1,14 @@
 -- Guests as images, and images as guests.
-use Rattle.std.proofs.Common.{◌≡◌, ◌≢◌, ◌≤◌, ℕ, ◌+◌, ◌*◌, ◌==◌, ◌&&◌, Bool, true, false, List, length, Option, None, Some, slice_get, arith, refl, ap}
+use Rattle.std.proofs.Common.{◌≡◌, ◌≢◌, ◌≤◌, ℕ, ◌+◌, ◌*◌, ◌==◌, ◌&&◌, Bool, true, false, length, arith, refl, ap}
 use Rattle.std.specs.Prelude.{nat_le}
 use Rattle.std.proofs.lemmas.Bool.{and_parts, leb-true, eqb-true}
 use Rattle.fmi_states.specs.declared.phase.Phase.{Phase}
 use Rattle.fmi_states.specs.declared.phase.Phase.TheVariants.{Fresh, Instantiated, Init, Event, Step, Terminated, Failed, Gone}
 use Rattle.unit_specs.specs.Description.{Description}
-use Rattle.wasm_types.specs.declared.module.Limits.{Limits}
 use Rattle.wasm_types.specs.declared.module.Module.{Module}
 use Rattle.wasm_types.specs.Modules.{NestedModule}
 use Rattle.wasm_types.specs.Back.{nested_module}
-use Rattle.code_specs.specs.Stores.{pages, page_size, pages_within, greatest_pages}
+use Rattle.code_specs.specs.Stores.{pages, page_size}
 use Rattle.wasm_machine.specs.Making.{globals_suit, pages_suit, suits}
 use Rattle.binding_specs.specs.Guests.{area_size}
 use Rattle.fmi_binding.specs.declared.state.GuestState.{GuestState}

@@ -10,6 +10,7 @@ use Rattle.wasm_machine.specs.Instances.{Stands}
 use Rattle.binding_specs.specs.Exports.{binding_fault}
 use Rattle.binding_specs.specs.Guests.{greatest_size}
 use Rattle.binding_specs.specs.Answers.{fresh_guest}
+use Rattle.guest_laws.specs.Words.{HasStore, IsPlaced}
 use Rattle.fmi_binding.specs.declared.guests.Guests.{Guests}
 use Rattle.fmi_binding.specs.declared.state.GuestState.{GuestState}
 use Rattle.fmi_binding.specs.declared.wasm_ecu.WasmEcu.{WasmEcu}
@@ -35,12 +36,15 @@ state_of e shared = record {
 }
 
 -- Its table is there with the size of its memory, and its module is that of a unit. Its variables and the address of
--- its area have their limits: 64 KiB, and 256 pages.
+-- its area have their limits: 64 KiB, and 256 pages. Its memory and globals are such as its code may have, and from its
+-- instantiation on its area lies in its memory.
 pub record IsIn (e : WasmEcu) (shared : Guests) : Type 0 where
   pub stands : Stands e.bound.code shared.pool e.instance
   pub bound : binding_fault (nested_module e.bound.code) ≡ None
   pub sizes : greatest_size e.bound.description.terminals ≤ 65536
   pub area : e.area ≤ 16777216
+  pub store : HasStore (guest_of (state_of e shared))
+  pub placed : IsPlaced e.phase (guest_of (state_of e shared))
 
 -- the state before the first call
 abbrev pub opening_state : Module → Description → (fuel : ℕ) → GuestState

@@ -1,5 +1,5 @@
 -- What is saved of a guest, and the guest that is made of it again. Contracts cite this module.
-use Rattle.std.specs.Prelude.{ℕ, ◌+◌, ◌/◌, ◌&&◌, Bool, true, false, length, nat_le}
+use Rattle.std.specs.Prelude.{ℕ, ◌+◌, ◌&&◌, Bool, true, false, length, nat_le}
 use Rattle.fmi_states.specs.declared.phase.Phase.{Phase}
 use Rattle.fmi_states.specs.declared.phase.Phase.TheVariants.{Step}
 use Rattle.unit_specs.specs.Description.{Description}

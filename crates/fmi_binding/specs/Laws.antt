@@ -7,6 +7,7 @@ use Rattle.fmi_states.specs.Reply.{bytes_in, AreBytes, is_suitable}
 use Rattle.fmi_states.specs.Parts.{Among, Shares}
 use Rattle.wasm_memory.specs.Pools.{Tables, Extent, table_at, IsThere}
 use Rattle.binding_laws.proofs.Sound.{reply_suits, reply_is_bytes, phase_moves}
+use Rattle.guest_laws.specs.Words.{HasStore, IsPlaced}
 use Rattle.fmi_binding.specs.declared.guests.Guests.{Guests}
 use Rattle.fmi_binding.specs.declared.state.GuestState.{GuestState}
 use Rattle.fmi_binding.specs.declared.wasm_ecu.WasmEcu.{WasmEcu}
@@ -49,6 +50,8 @@ same_place e s t here shares = record {
   bound = here.bound;
   sizes = here.sizes;
   area = here.area;
+  store = subst (λ (x : GuestState). HasStore (guest_of x)) (sym (same_state e s t shares)) here.store;
+  placed = subst (λ (x : GuestState). IsPlaced e.phase (guest_of x)) (sym (same_state e s t shares)) here.placed;
 }
 
 some_is : {A : Type 0} (o : Option A) → IsSome o → o ≢ None

@@ -1,5 +1,6 @@
 //! What is saved of a guest, and guests that are made of it again.
-ghost use Rattle.std.specs.Prelude.{◌≡◌, ◌≤◌, ℕ, false, None, Ok, IfOk, IfSome, OnErr, is_some};
+ghost use Rattle.std.specs.Prelude.{◌≡◌, ◌≤◌, ℕ, true, false, None, Ok, IfOk, IfSome, OnErr, is_some};
+ghost use Rattle.fmi_states.specs.declared.phase.Phase.TheVariants.{Step};
 ghost use Rattle.fmi_states.specs.Parts.{Among, Spares};
 ghost use Rattle.wasm_types.specs.Back.{nested_module};
 ghost use Rattle.code_specs.specs.Instances.{first_misfit};
@@ -73,7 +74,10 @@ impl WasmEcu {
     /// What is saved of the guest.
     pub fn image(&self, alloc: Global, shared: &Guests) -> Result<Image, AllocError>
         requires here { IsIn self.now shared.now }
-        ensures { IfOk result (λ i. i ≡ image_of (state_of self.now shared.now)) }
+        ensures image { IfOk result (λ i. i ≡ image_of (state_of self.now shared.now)) }
+        // In Step Mode it suits the guest's module.
+        ensures suits { let s = state_of self.now shared.now in s.phase ≡ Step
+            → IfOk result (λ i. image_suits (nested_module s.code) s.description i ≡ true) }
     {
         let bytes = memory_of(alloc, &shared.pool, &self.bound.code, &self.instance)?;
         let globals = Vec::from_slice(alloc, self.instance.globals())?;

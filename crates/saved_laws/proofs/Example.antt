@@ -10,9 +10,9 @@ use Rattle.world_specs.specs.Plan.{opening_of, units_of}
 use Rattle.world_laws.specs.Cases.{sensor, gateway, two_buses}
 use Rattle.world_laws.proofs.Cases.{two_buses-is}
 use Rattle.saved_specs.specs.Fit.{Fit}
-use Rattle.saved_laws.specs.Words.{Begins}
+use Rattle.guest_laws.specs.Words.{Begins}
 use Rattle.saved_laws.specs.Cases.{one_page, two_guests}
-use Rattle.saved_laws.proofs.Fresh.{fresh-begins}
+use Rattle.guest_laws.proofs.Fresh.{fresh-begins}
 use Rattle.saved_laws.proofs.Saving.{guests-fit}
 
 one-begins : (d : Description) (budget : ℕ) → Begins (fresh_guest one_page d budget)

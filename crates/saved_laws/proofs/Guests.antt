@@ -1,16 +1,11 @@
 -- What the calls of a session keep of a guest, and so each session of the units of a plan.
 use Rattle.std.proofs.Common.{◌≡◌, ◌≤◌, ℕ, true, List, [], ◌∷◌, Option, None, Some, slice_get}
 use Rattle.std.proofs.Common.{arith, refl, sym, ap, subst, ◌∙◌}
-use Rattle.std.specs.Prelude.{IsTrue, ⊤}
+use Rattle.std.specs.Prelude.{IsTrue}
 use Rattle.fmi_states.specs.declared.phase.Phase.{Phase}
-use Rattle.fmi_states.specs.declared.phase.Phase.TheVariants.{Fresh, Instantiated, Init, Event, Step, Terminated, Failed, Gone}
-use Rattle.fmi_states.specs.declared.status.FmiStatus.TheVariants as status
+use Rattle.fmi_states.specs.declared.phase.Phase.TheVariants.{Step}
 use Rattle.fmi_states.specs.declared.call.Call.{Call}
-use Rattle.fmi_states.specs.declared.call.Call.TheVariants as call
-use Rattle.fmi_states.specs.declared.reply.Reply.{Reply}
-use Rattle.fmi_states.specs.declared.reply.Reply.TheVariants as reply
 use Rattle.fmi_states.specs.Phase.{is_permitted, next_phase}
-use Rattle.fmi_states.specs.Reply.{is_suitable}
 use Rattle.wasm_types.specs.declared.module.Limits.{Limits}
 use Rattle.wasm_types.specs.Modules.{NestedModule}
 use Rattle.code_specs.specs.Stores.{pages, pages_within, greatest_pages}
@@ -24,70 +19,26 @@ use Rattle.session_laws.proofs.Whole.{calls_run, stands}
 use Rattle.binding_specs.specs.Guests.{Guest}
 use Rattle.binding_specs.specs.Answers.{answer}
 use Rattle.binding_laws.specs.Words.{HasArea}
-use Rattle.binding_laws.proofs.Sound.{reply_suits, phase_moves}
-use Rattle.binding_laws.proofs.Steady.{area_stays, area_is_placed, same_code, same_description, same_budget}
+use Rattle.binding_laws.proofs.Sound.{phase_moves}
+use Rattle.binding_laws.proofs.Steady.{same_code, same_description, same_budget}
 use Rattle.world_specs.specs.Plan.{Plan, description_of, session_in, units_of}
 use Rattle.saved_specs.specs.Fit.{IsSuited}
-use Rattle.saved_laws.specs.Words.{Begins, KeepsSuited}
-use Rattle.saved_laws.proofs.Stores.{StoreSuits, to-suits, from-suits, store-stays}
+use Rattle.guest_laws.specs.Words.{Begins, IsPlaced}
+use Rattle.guest_laws.proofs.Stores.{StoreSuits, to-suits, from-suits, store-stays}
+use Rattle.guest_laws.proofs.Placed.{in-any, call-area}
+use Rattle.saved_laws.specs.Words.{KeepsSuited}
 
 abbrev phase_of : Guest → Phase
 phase_of g = g.phase
-
--- a guest has its area from its instantiation on
-abbrev InArea : Phase → Guest → Type 0
-InArea Fresh g = ⊤
-InArea Instantiated g = HasArea g
-InArea Init g = HasArea g
-InArea Event g = HasArea g
-InArea Step g = HasArea g
-InArea Terminated g = HasArea g
-InArea Failed g = HasArea g
-InArea Gone g = ⊤
 
 record Holds (fresh g : Guest) : Type 0 where
   code : g.code ≡ fresh.code
   description : g.description ≡ fresh.description
   budget : g.budget ≡ fresh.budget
   store : StoreSuits g.code g.store
-  area : InArea g.phase g
-
-in-any : (ph : Phase) (g : Guest) → HasArea g → InArea ph g
-in-any Fresh g h = tt
-in-any Instantiated g h = h
-in-any Init g h = h
-in-any Event g h = h
-in-any Step g h = h
-in-any Terminated g h = h
-in-any Failed g h = h
-in-any Gone g h = tt
+  area : IsPlaced g.phase g
 
 -- ---- one call
-
-placed : (g : Guest) (r : Reply) → (answer g call.Instantiate).0 ≡ r → IsTrue (is_suitable call.Instantiate r)
-    → InArea (next_phase g.phase call.Instantiate r) (answer g call.Instantiate).1
-placed g (reply.Plain status.Ok) e h = area_is_placed g status.Ok refl e
-placed g (reply.Plain status.Warning) e h = area_is_placed g status.Warning refl e
-placed g (reply.Plain status.Discard) e h = tt
-placed g (reply.Plain status.Error) e h = tt
-placed g (reply.Plain status.Fatal) e h = tt
-placed g (reply.Broken why) e h = tt
-placed g other e h = absurd (cc h)
-
-first-area : (g : Guest) (c : Call) → IsTrue (is_permitted Fresh c) → InArea (answer g c).1.phase (answer g c).1
-first-area g call.Instantiate may = subst (λ (ph : Phase). InArea ph (answer g call.Instantiate).1) (sym (phase_moves g call.Instantiate))
-    (placed g (answer g call.Instantiate).0 refl (reply_suits g call.Instantiate))
-first-area g c may = absurd (cc may)
-
-call-area : (g : Guest) (c : Call) (ph : Phase) → IsTrue (is_permitted ph c) → InArea ph g → InArea (answer g c).1.phase (answer g c).1
-call-area g c Fresh may h = first-area g c may
-call-area g c Instantiated may h = in-any (answer g c).1.phase (answer g c).1 (area_stays g c h)
-call-area g c Init may h = in-any (answer g c).1.phase (answer g c).1 (area_stays g c h)
-call-area g c Event may h = in-any (answer g c).1.phase (answer g c).1 (area_stays g c h)
-call-area g c Step may h = in-any (answer g c).1.phase (answer g c).1 (area_stays g c h)
-call-area g c Terminated may h = in-any (answer g c).1.phase (answer g c).1 (area_stays g c h)
-call-area g c Failed may h = in-any (answer g c).1.phase (answer g c).1 (area_stays g c h)
-call-area g c Gone may h = absurd (cc may)
 
 call-holds : (fresh g : Guest) (c : Call) → IsTrue (is_permitted g.phase c) → Holds fresh g → Holds fresh (answer g c).1
 call-holds fresh g c may h = record {
@@ -97,13 +48,6 @@ call-holds fresh g c may h = record {
   store = subst (λ (m : NestedModule). StoreSuits m (answer g c).1.store) (sym (same_code g c)) (store-stays g c h.store);
   area = call-area g c g.phase may h.area;
 }
-
-pub store-suited : (g : Guest) (c : Call) → suits g.code (pages g.store) g.store.bytes g.store.globals ≡ true
-    → suits (answer g c).1.code (pages (answer g c).1.store) (answer g c).1.store.bytes (answer g c).1.store.globals ≡ true
-store-suited g c h =
-    let after = (answer g c).1 in
-    to-suits after.code after.store (subst (λ (m : NestedModule). StoreSuits m after.store) (sym (same_code g c))
-    (store-stays g c (from-suits g.code (pages g.store) g.store h)))
 
 -- ---- a session
 
@@ -133,7 +77,7 @@ rebuilt fresh g c d b p = ap (λ (x : NestedModule). record g { code = x }) c
 
 suited : (fresh g : Guest) → g.phase ≡ Step → Holds fresh g → IsSuited fresh g
 suited fresh g p h =
-    let area : HasArea g = subst (λ (ph : Phase). InArea ph g) p h.area in
+    let area : HasArea g = subst (λ (ph : Phase). IsPlaced ph g) p h.area in
     let whole = h.store.whole in
     let high = h.store.most in
     let all = most g.code in
@@ -151,7 +95,7 @@ begins fresh h = record {
   description = refl;
   budget = refl;
   store = from-suits fresh.code (pages fresh.store) fresh.store h.store;
-  area = subst (λ (ph : Phase). InArea ph fresh) (sym h.phase) tt;
+  area = subst (λ (ph : Phase). IsPlaced ph fresh) (sym h.phase) tt;
 }
 
 goes-on : (fresh g : Guest) → IsSuited fresh g → Holds fresh g

@@ -1,7 +1,4 @@
 pub mod History
-pub mod Stores
-pub mod Fresh
-pub mod Accepted
 pub mod Guests
 pub mod Suited
 pub mod Whole

@@ -9,8 +9,9 @@ use Rattle.world_specs.specs.Plan.{NodePlan, IsPlan}
 use Rattle.network_specs.specs.Networks.{Network}
 use Rattle.ideal_specs.specs.Ideal.{guests_from, guest_units, ideal_world}
 use Rattle.saved_specs.specs.Fit.{Fit}
-use Rattle.saved_laws.specs.Words.{Begins, IsAccepted}
-use Rattle.saved_laws.proofs.Accepted.{module-begins}
+use Rattle.guest_laws.specs.Words.{Begins}
+use Rattle.guest_laws.proofs.Accepted.{module-begins}
+use Rattle.saved_laws.specs.Words.{IsAccepted}
 use Rattle.saved_laws.proofs.Saving.{guests-fit}
 
 one-each : (fuel : ℕ) (ms : List NestedModule) (ns : List NodePlan) → length ms ≡ length ns → length (guests_from fuel ms ns) ≡ length ns

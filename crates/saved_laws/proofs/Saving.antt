@@ -13,7 +13,8 @@ use Rattle.world_laws.proofs.Planned.{units-fit}
 use Rattle.state_laws.proofs.Clocks.{units-near}
 use Rattle.state_laws.proofs.Planned.{units-each}
 use Rattle.saved_specs.specs.Fit.{Fit}
-use Rattle.saved_laws.specs.Words.{Begins, KeepsSuited}
+use Rattle.guest_laws.specs.Words.{Begins}
+use Rattle.saved_laws.specs.Words.{KeepsSuited}
 use Rattle.saved_laws.proofs.Guests.{keep-suited}
 use Rattle.saved_laws.proofs.Suited.{stay-suited}
 use Rattle.saved_laws.proofs.Whole.{whole}

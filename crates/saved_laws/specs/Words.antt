@@ -1,12 +1,9 @@
 -- The words of the laws of saved states. Contracts cite this module.
-use Rattle.std.specs.Prelude.{◌≡◌, ◌≤◌, ℕ, true, All, List, None, Some, slice_get}
-use Rattle.fmi_states.specs.declared.phase.Phase.TheVariants.{Fresh}
+use Rattle.std.specs.Prelude.{◌≡◌, ◌≤◌, ℕ, All, List, None, Some, slice_get}
 use Rattle.wasm_types.specs.Modules.{NestedModule}
 use Rattle.module_specs.specs.ModuleSpelling.{SpellsModule}
-use Rattle.code_specs.specs.Stores.{pages}
 use Rattle.code_specs.specs.Instances.{first_misfit}
 use Rattle.code_specs.specs.Validity.{IsValid}
-use Rattle.wasm_machine.specs.Making.{suits}
 use Rattle.session_specs.specs.Outcome.{Live}
 use Rattle.binding_specs.specs.Guests.{Guest}
 use Rattle.world_specs.specs.Units.{Given, Units}
@@ -18,11 +15,6 @@ pub record IsAccepted (m : NestedModule) : Type 0 where
   pub spelled : SpellsModule m file
   pub valid : IsValid m
   pub fits : first_misfit m ≡ None
-
--- a guest before its first call, with a memory and globals that its code may have
-pub record Begins (g : Guest) : Type 0 where
-  pub phase : g.phase ≡ Fresh
-  pub store : suits g.code (pages g.store) g.store.bytes g.store.globals ≡ true
 
 -- A session of a node, from its fresh guest or from one that is suited, leaves a guest that is suited where the node goes on.
 pub record KeepsSuited (guests : List Guest) (u : Units Guest) : Type 0 where

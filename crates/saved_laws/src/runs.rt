@@ -15,7 +15,8 @@ ghost use Rattle.ideal_specs.specs.Ideal.{guests_from, guest_units, ideal_world}
 ghost use Rattle.state_laws.specs.Words.{SetsWithin, ChangesEach, clocks_in};
 ghost use Rattle.saved_specs.specs.Fit.{AreSuited, Fit};
 ghost use Rattle.saved_laws.specs.Cases.{two_guests};
-ghost use Rattle.saved_laws.specs.Words.{Begins, IsAccepted, KeepsSuited};
+ghost use Rattle.guest_laws.specs.Words.{Begins};
+ghost use Rattle.saved_laws.specs.Words.{IsAccepted, KeepsSuited};
 
 /// Guests stay suited along a run, if each session leaves them so.
 pub fn guests_stay_suited()

@@ -13,8 +13,8 @@ use Rattle.code_specs.specs.Instances.{least, memory_size, with_datas, opening_s
 use Rattle.wasm_machine.specs.Making.{globals_suit, pages_suit}
 use Rattle.unit_specs.specs.Description.{Description}
 use Rattle.binding_specs.specs.Answers.{fresh_guest}
-use Rattle.saved_laws.specs.Words.{Begins}
-use Rattle.saved_laws.proofs.Stores.{StoreSuits, size, to-suits}
+use Rattle.guest_laws.specs.Words.{Begins}
+use Rattle.guest_laws.proofs.Stores.{StoreSuits, size, to-suits}
 
 no-misfit : (elements datas : Option ℕ)
     → option_map_or (λ place. Some (misfit.Element place)) elements (option_map (λ place. misfit.Data place) datas) ≡ None → datas ≡ None

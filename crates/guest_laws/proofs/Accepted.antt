@@ -1,6 +1,6 @@
 -- A module that is spelled by a file, is valid, and whose segments fit has a guest whose store its code may have.
 use Rattle.std.proofs.Common.{◌≡◌, ◌≤◌, ◌<◌, ℕ, ◌+◌, ◌^◌, ◌&&◌, ◌||◌, Bool, true, false, List, [], ◌∷◌, map, Option, None, Some}
-use Rattle.std.proofs.Common.{All, slice_get, arith, refl, sym, subst}
+use Rattle.std.proofs.Common.{All, slice_get, arith, refl, sym, subst, ap, ◌∙◌}
 use Rattle.std.specs.Prelude.{cond, nat_le}
 use Rattle.std.specs.Option.{option_map_or}
 use Rattle.std.proofs.lemmas.Bool.{leb-true, le-leb, lt-ltb, eq-eqb, and_parts}
@@ -10,10 +10,15 @@ use Rattle.wasm_types.specs.declared.instr.ValType.TheVariants.{I32, I64}
 use Rattle.wasm_types.specs.declared.module.Limits.{Limits}
 use Rattle.wasm_types.specs.declared.module.GlobalVar.{GlobalVar}
 use Rattle.wasm_types.specs.Modules.{NestedModule}
+use Rattle.wasm_types.specs.declared.module.Module.{Module}
+use Rattle.wasm_types.specs.Back.{nested_module}
 use Rattle.wasm_types.specs.Spellable.{width, FitsType}
+use Rattle.wasm_types.proofs.Spelled.{plain_module}
+use Rattle.wasm_types.proofs.Whole.{module_back}
 use Rattle.module_specs.specs.ModuleSpelling.{most_pages, SpellsMemory, Section, Custom, Types, Imports, Funcs, Tables, Memories, Globals}
 use Rattle.module_specs.specs.ModuleSpelling.{Exports, Start, Elements, Codes, Datas, Before, after, SpellsSectionContent, SpellsSections}
 use Rattle.module_specs.specs.ModuleSpelling.{put, put_all, empty, SpellsModule}
+use Rattle.module_specs.specs.Spelled.{IsSpelled}
 use Rattle.module_specs.proofs.SpellableParts.{each_fits, module_fits}
 use Rattle.code_specs.specs.declared.rule.Rule.TheVariants as rule
 use Rattle.code_specs.specs.Values.{is_same}
@@ -26,8 +31,8 @@ use Rattle.code_laws.proofs.Parts.{none_fails}
 use Rattle.wasm_machine.specs.Making.{global_suits, globals_suit, pages_suit}
 use Rattle.unit_specs.specs.Description.{Description}
 use Rattle.binding_specs.specs.Answers.{fresh_guest}
-use Rattle.saved_laws.specs.Words.{Begins}
-use Rattle.saved_laws.proofs.Fresh.{fresh-begins}
+use Rattle.guest_laws.specs.Words.{Begins}
+use Rattle.guest_laws.proofs.Fresh.{fresh-begins}
 
 -- ---- the least size of a memory that is spelled
 
@@ -147,3 +152,11 @@ module-begins m bytes d budget spelled valid fit =
     fresh-begins m d budget fit
     (pages-suit m (least-low m m.memories refl (memories-small m bytes spelled) parts.memories))
     (globals-suit 0 m.globals (module_fits m bytes spelled).globals parts.globals)
+
+-- so it is of the flat form of such a module
+pub spelled-begins : (m : Module) (d : Description) (budget : ℕ) → IsSpelled m → IsValid (nested_module m)
+    → first_misfit (nested_module m) ≡ None → Begins (fresh_guest (nested_module m) d budget)
+spelled-begins m d budget s valid fit =
+    let plain = plain_module s.nested (module_fits s.nested s.bytes s.spelled) in
+    let same : s.nested ≡ nested_module m = sym (ap nested_module s.flat ∙ module_back s.nested plain) in
+    module-begins (nested_module m) s.bytes d budget (subst (λ (n : NestedModule). SpellsModule n s.bytes) same s.spelled) valid fit

@@ -1,6 +1,6 @@
-use Rattle.saved_laws.proofs.Fresh.{fresh-begins}
-use Rattle.saved_laws.proofs.Accepted.{module-begins}
-use Rattle.saved_laws.proofs.calls.fresh_guests_begin.Goals as goal
+use Rattle.guest_laws.proofs.Fresh.{fresh-begins}
+use Rattle.guest_laws.proofs.Accepted.{module-begins}
+use Rattle.guest_laws.proofs.calls.fresh_guests_begin.Goals as goal
 
 pub returns-clause-begins : goal.returns-clause-begins
 returns-clause-begins c = fresh-begins

@@ -1,0 +1,4 @@
+pub mod Stores
+pub mod Placed
+pub mod Fresh
+pub mod Accepted
