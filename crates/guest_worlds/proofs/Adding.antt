@@ -1,5 +1,5 @@
 -- One unit more, which owns parts that weren't there.
-use Rattle.std.proofs.Common.{◌≡◌, ◌+◌, ◌⊎◌, ℕ, zero, suc, List, [], ◌∷◌, ◌++◌, length, map, Option, Some, None, slice_get, sym, ap, ◌∙◌, subst, refl, arith, inl, inr}
+use Rattle.std.proofs.Common.{◌≡◌, ◌+◌, ◌⊎◌, ℕ, zero, suc, List, [], ◌∷◌, ◌++◌, length, map, Some, None, slice_get, ap, ◌∙◌, subst, refl, arith, inl, inr}
 use Rattle.std.proofs.lemmas.List.{map-append}
 use Rattle.fmi_states.specs.declared.ecu.Ecu.{Ghosts}
 use Rattle.fmi_states.specs.Parts.{Among, Spares, Shares}
@@ -24,7 +24,8 @@ module _ {E G S : Type 0} (g : Ghosts E G S)
   others d e s here fresh p own new = is-there d s p here own (fresh p new)
 
   -- no unit owns a part that isn't there
-  unowned : (es : List E) (s : G) (p : ℕ) → ((i : ℕ) (d : E) → slice_get es i ≡ Some d → g.is_in d s) → g.part p s ≡ None → owners p (map g.parts es) ≡ 0
+  unowned : (es : List E) (s : G) (p : ℕ) → ((i : ℕ) (d : E) → slice_get es i ≡ Some d → g.is_in d s) → g.part p s ≡ None
+      → owners p (map g.parts es) ≡ 0
   unowned [] s p here gone = refl
   unowned (d ∷ es) s p here gone =
       let rest = unowned es s p (λ i. here (suc i)) gone in

@@ -1,8 +1,7 @@
 -- What a network asks of its units holds of the guests of a plan.
-use Rattle.std.proofs.Common.{◌≡◌, ◌≤◌, ◌<◌, ℕ, zero, suc, max, List, [], ◌∷◌, All, get_or, length, map, sym, ap, ◌∙◌, subst, refl, arith}
+use Rattle.std.proofs.Common.{◌≡◌, ◌≤◌, ◌<◌, ℕ, zero, suc, max, List, [], ◌∷◌, All, get_or, length, sym, ap, ◌∙◌, subst, refl, arith}
 use Rattle.std.proofs.lemmas.List.{length-map}
 use Rattle.fmi_states.specs.declared.ecu.Ecu.{Ghosts}
-use Rattle.fmi_states.specs.declared.phase.Phase.{Phase}
 use Rattle.fmi_states.specs.declared.phase.Phase.TheVariants.{Fresh}
 use Rattle.unit_specs.specs.Description.{Terminal}
 use Rattle.wasm_types.specs.declared.module.Module.{Module}

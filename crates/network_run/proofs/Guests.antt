@@ -42,7 +42,8 @@ ideal-status p ms stop budget =
     ∙ ap (run_status (guest_units p) stop budget) (same-world p ms)
 
 -- what is left of a world that was opened so
-pub lines-of : (p : Plan) (ms : List Module) (w : Seen GuestState Guests) (budget : ℕ) → w ≡ opened p (opening_states p.fuel ms p.nodes) w.parts w.shared → budget ≡ p.events
+pub lines-of : (p : Plan) (ms : List Module) (w : Seen GuestState Guests) (budget : ℕ)
+    → w ≡ opened p (opening_states p.fuel ms p.nodes) w.parts w.shared → budget ≡ p.events
     → run_lines (units_of state_answer (λ s. s.phase) w.plan) w.plan.stop budget w.network
     ≡ run_lines (guest_units p) p.stop p.events (opening_of p (guests_from p.fuel (map nested_module ms) p.nodes))
 lines-of p ms w budget e all =
@@ -50,7 +51,8 @@ lines-of p ms w budget e all =
     ∙ ideal-lines p ms p.stop budget
     ∙ ap (λ n. run_lines (guest_units p) p.stop n (opening_of p (guests_from p.fuel (map nested_module ms) p.nodes))) all
 
-pub status-of : (p : Plan) (ms : List Module) (w : Seen GuestState Guests) (budget : ℕ) → w ≡ opened p (opening_states p.fuel ms p.nodes) w.parts w.shared → budget ≡ p.events
+pub status-of : (p : Plan) (ms : List Module) (w : Seen GuestState Guests) (budget : ℕ)
+    → w ≡ opened p (opening_states p.fuel ms p.nodes) w.parts w.shared → budget ≡ p.events
     → run_status (units_of state_answer (λ s. s.phase) w.plan) w.plan.stop budget w.network
     ≡ run_status (guest_units p) p.stop p.events (opening_of p (guests_from p.fuel (map nested_module ms) p.nodes))
 status-of p ms w budget e all =

@@ -336,15 +336,15 @@ module _ (limit bit ids : ℕ) where
     finished : (r : Running) → SoundRunning b.setup b.members r → (m : Member) → Held b m → Held (bus_after_finish b now r) (member_after_finish r m)
     finished r k m x =
         let low = identifier-low r.frame k.frame.well_formed in record {
-      notices = record { lost = x.notices.lost; format = x.notices.format; wake = x.notices.wake };
-      identifiers = record {
-        lost = x.identifiers.lost;
-        mail = mail-stays m.live m.mail (mail r.frame r.fault (part r m.node) m) x.identifiers.mail
-            (mail-low r.frame (omega (arith, low, i)) r.fault (part r m.node) m);
-      };
-      returns = λ e. some-always (member_after_finish r m).occurrences
-          (λ n. return_moment (bus_after_finish b now r) n ≤ limit) (λ n. return-soon r n);
-    }
+          notices = record { lost = x.notices.lost; format = x.notices.format; wake = x.notices.wake };
+          identifiers = record {
+            lost = x.identifiers.lost;
+            mail = mail-stays m.live m.mail (mail r.frame r.fault (part r m.node) m) x.identifiers.mail
+                (mail-low r.frame (omega (arith, low, i)) r.fault (part r m.node) m);
+          };
+          returns = λ e. some-always (member_after_finish r m).occurrences
+              (λ n. return_moment (bus_after_finish b now r) n ≤ limit) (λ n. return-soon r n);
+        }
 
     pub finish-keeps : Bounded limit bit ids (finish b now).0
     unfolding finish

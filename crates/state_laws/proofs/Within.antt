@@ -56,11 +56,11 @@ module _ {S : Type 0} (u : Units S) (p : Plan) (states : List S) (w : World S) (
       let most = plan.events.1 in
       let kept = buses-keep u latest (10 ^ 12) (2 ^ 32) (omega arith) w e (omega (arith, l, m)) h.fits bounded in
       let started : All Has64 (world_behind u w e).buses = each-bus u w e.moment e.what Has64 Has64
-          (λ b a i. numbered-behind (λ n given. n < 2 ^ 64) (λ n given more l h. h) u w e.moment e.what b
-          (each-All Sound w.buses b h.fits.sound a)
-          (λ n below. let c = (each-All (IsCounted counted_nodes w.events) w.buses b h.counted a).numbers in
-          omega (arith, below, c, left, most)) i)
-          (all-more IsInRange Has64 w.buses (λ b a r. r.running) h.ranges) in
+      (λ b a i. numbered-behind (λ n given. n < 2 ^ 64) (λ n given more l h. h) u w e.moment e.what b
+      (each-All Sound w.buses b h.fits.sound a)
+      (λ n below. let c = (each-All (IsCounted counted_nodes w.events) w.buses b h.counted a).numbers in
+      omega (arith, below, c, left, most)) i)
+      (all-more IsInRange Has64 w.buses (λ b a r. r.running) h.ranges) in
       record {
         fits = fits-step u p.stop w e fit h.fits next;
         events = omega (arith, left);
@@ -130,8 +130,8 @@ module _ {S : Type 0} (p : Plan) (plan : IsPlan p) (states : List S) (w : World 
   pub planned-few : length w.nodes ≤ counted_nodes
   planned-few =
       let same : length w.nodes ≡ length (new_nodes 0 p.nodes states) =
-          sym (length-map w.nodes (λ (n : Node S). n.number)) ∙ ap (λ (ns : List ℕ). length ns) h.numbers
-          ∙ length-map (new_nodes 0 p.nodes states) (λ (n : Node S). n.number) in
+      sym (length-map w.nodes (λ (n : Node S). n.number)) ∙ ap (λ (ns : List ℕ). length ns) h.numbers
+      ∙ length-map (new_nodes 0 p.nodes states) (λ (n : Node S). n.number) in
       let most = new-most 0 p.nodes states in
       let few = plan.some_nodes.1 in
       omega (arith, same, most, few)

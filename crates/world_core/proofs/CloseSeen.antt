@@ -59,10 +59,10 @@ module _ {E G S : Type 0} (g : Ghosts E G S) (c : Course) (es : List E) (shared 
       let us : Units S = units_of g.answer g.phase_of c.plan in
       let ss : List S = states_of g es shared in
       let stay : states_of g es' shared' ≡ ss =
-          units
-          ∙ ap (λ (x : Course). units_closed (units_of g.answer g.phase_of x.plan) (network_of x ss).nodes ss) leaves
-          ∙ ap (λ (v : World S). units_closed us v.nodes ss) same
-          ∙ units-stay us 0 c.plan.nodes ss (length-map es (λ x. g.state x shared) ∙ kept.each) in
+      units
+      ∙ ap (λ (x : Course). units_closed (units_of g.answer g.phase_of x.plan) (network_of x ss).nodes ss) leaves
+      ∙ ap (λ (v : World S). units_closed us v.nodes ss) same
+      ∙ units-stay us 0 c.plan.nodes ss (length-map es (λ x. g.state x shared) ∙ kept.each) in
       ap (network_closed us) same ∙ opening-closed us c.plan ss ∙ ap (opening_of c.plan) (sym stay)
 
   pub kept-closed : AreClosed → IsHeld g after es' shared' → IsKept g after es' shared'

@@ -31,7 +31,7 @@ image-more (m ∷ ns) (v ∷ ts) cs zero n t a b = let x : m ≡ n = cc in let y
 image-more (m ∷ ns) (v ∷ ts) cs (suc k) n t a b =
     let one : drop (k * 8) (drop 8 cs) ≡ drop (suc k * 8) cs = drop-both 8 (k * 8) cs ∙ ap (λ j. drop j cs) (eights k) in
     let two : drop ((k + 1) * 8) (drop 8 cs) ≡ drop ((suc k + 1) * 8) cs =
-        drop-both 8 ((k + 1) * 8) cs ∙ ap (λ j. drop j cs) (eights-more k) in
+    drop-both 8 ((k + 1) * 8) cs ∙ ap (λ j. drop j cs) (eights-more k) in
     let three : drop (suc k + 1) (m ∷ ns) ≡ drop (k + 1) ns = ap (λ j. drop j (m ∷ ns)) (one-more k) in
     let four : drop (suc k + 1) (v ∷ ts) ≡ drop (k + 1) ts = ap (λ j. drop j (v ∷ ts)) (one-more k) in
     sym (ap (standing_images (drop k ns) (drop k ts)) one)

@@ -185,7 +185,7 @@ module _ {E G S : Type 0} (g : Ghosts E G S) (replies : AnswersBytes g.answer) (
       let here : failed ≡ false = ap (λ (y : Seen S G). y.failed) is ∙ ok in
       let plan-is : next.plan ≡ c.plan = ap (λ (y : Course). y.plan) course-is in
       let network-is : network_of next (states_of g es' shared') ≡ world_behind us w (at Sessions t) =
-          ap (λ (y : Course). network_of y (states_of g es' shared')) course-is ∙ network-behind in
+      ap (λ (y : Course). network_of y (states_of g es' shared')) course-is ∙ network-behind in
       subst (λ (y : Seen S G). acting.seen next (states_of g es' shared') (map g.parts es') shared' false ≡ record y {
         network = world_behind (units_of g.answer g.phase_of y.plan) y.network (at Sessions t);
         units = units_behind (units_of g.answer g.phase_of y.plan) y.network (at Sessions t) y.units;

@@ -1,4 +1,4 @@
-use Rattle.std.proofs.Common.{rules, ◌≡◌, ◌<◌, ◌+◌, ◌++◌, ◌∷◌, [], All, drop, length, get_or, sym, ap, ◌∙◌, subst, arith}
+use Rattle.std.proofs.Common.{rules, ◌≡◌, ◌<◌, ◌+◌, ◌++◌, ◌∷◌, [], All, drop, length, get_or, sym, ap, ◌∙◌, subst}
 use Rattle.fmi_binding.specs.contracts.wasm_ecu.WasmEcuEcu.TheImpl.{ghosts}
 use Rattle.fmi_binding.specs.Laws.{same_state, same_place, is_there}
 use Rattle.std.proofs.lemmas.List.{length-append}

@@ -1,4 +1,4 @@
-use Rattle.std.proofs.Common.{rules, ◌≡◌, All, length, sym, subst}
+use Rattle.std.proofs.Common.{rules, ◌≡◌, All, sym, subst}
 use Rattle.fmi_binding.specs.contracts.wasm_ecu.WasmEcuEcu.TheImpl.{ghosts}
 use Rattle.guest_worlds.specs.Opening.{IsDescribed}
 use Rattle.guest_worlds.proofs.Opened.{described, fresh, as-many}
