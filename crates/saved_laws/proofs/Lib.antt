@@ -6,3 +6,5 @@ pub mod Opened
 pub mod Saving
 pub mod Example
 pub mod Networks
+pub mod Imaged
+pub mod Rests
