@@ -93,8 +93,8 @@ impl Pool {
         self.live as u32
     }
 
-    /// Puts a page of zeros at the end of a table. After an error, which comes for want of memory, at 2^31 pages of
-    /// the table and at 2^32 pages of the pool, all tables read as before.
+    /// Puts a page of zeros at the end of a table. After an error all tables read as before: it comes for want of
+    /// memory, at 2^31 pages of the table, and where 2^32 - 1 pages each have an owner.
     pub fn push_page(&mut self, alloc: Global, table: usize) -> Result<(), AllocError>
         requires { IsSome (table_at self.old.tables table) }
         ensures bytes { OnOk result (bytes_at self.new table ≡ longer (bytes_at self.old table) (replicate 4096 0)) }
@@ -156,7 +156,8 @@ impl Pool {
     }
 
     /// Sets a byte of a table. The page is copied first where it stands in another table or a second time in this one,
-    /// and only then can the call fail: for want of memory, and at 2^32 pages. All tables read as before then.
+    /// and only then can the call fail: for want of memory, and where
+    /// 2^32 - 1 pages each have an owner. All tables read as before then.
     pub fn write(
         &mut self,
         alloc: Global,
