@@ -1,42 +1,9 @@
 -- What a list reads as behind a push, an insertion, and the unlinking of that item.
-use Rattle.std.proofs.Common.{
-  ◌≡◌,
-  ◌≢◌,
-  ◌<◌,
-  ◌+◌,
-  ℕ,
-  zero,
-  suc,
-  Bool,
-  true,
-  false,
-  cond,
-  List,
-  [],
-  ◌∷◌,
-  ◌++◌,
-  length,
-  Option,
-  None,
-  Some,
-  nat_eq,
-  refl,
-  sym,
-  ap,
-  ◌∙◌,
-  subst,
-  inl,
-  inr,
-  ◌⊎◌,
-  arith,
-  map,
-  get_or,
-  set,
-}
+use Rattle.std.proofs.Common.{◌≡◌, ◌≢◌, ◌<◌, ℕ, true, false, cond, List, [], ◌∷◌, ◌++◌, length, None, Some, nat_eq, refl, sym, ap, ◌∙◌, subst, inl, inr, arith, map, set}
 use Rattle.std.proofs.lemmas.List.{get_or-set_same, get_or-set_other, ext_get_or, get_or-map, length-map}
 use Rattle.std.proofs.Math.ListN.{length-set}
-use Rattle.index_list.specs.Many.{first_of, last_of, has, before, without, after_of, item_of, list_at}
-use Rattle.index_list.proofs.Chains.{same_nat, other_nat, nat_cases, has_no, last_append, without_absent, clash}
+use Rattle.index_list.specs.Many.{last_of, has, before, without, after_of, item_of, list_at}
+use Rattle.index_list.proofs.Chains.{same_nat, other_nat, nat_cases, has_no, last_append, without_absent}
 
 module _ {T : Type 0} where
   pub last_pushed : (es : List (ℕ × T)) (p : ℕ) (x : T) → last_of None (es ++ (p, x) ∷ []) ≡ Some p

@@ -1,51 +1,15 @@
 -- What the calls of the lists need.
-use Rattle.std.proofs.Common.{
-  ◌≡◌,
-  ◌≢◌,
-  ◌<◌,
-  ◌≤◌,
-  ◌+◌,
-  ◌-◌,
-  ℕ,
-  zero,
-  suc,
-  Bool,
-  true,
-  false,
-  List,
-  [],
-  ◌∷◌,
-  ◌++◌,
-  length,
-  Option,
-  None,
-  Some,
-  refl,
-  sym,
-  ap,
-  ◌∙◌,
-  subst,
-  arith,
-  map,
-  get_or,
-  set,
-  IsSome,
-  IfSome,
-  append-nil,
-  replicate,
-  cond,
-  is_some,
-}
+use Rattle.std.proofs.Common.{◌≡◌, ◌<◌, ◌+◌, ℕ, zero, suc, true, List, [], ◌∷◌, ◌++◌, length, Option, None, Some, refl, sym, ap, ◌∙◌, subst, arith, map, get_or, set, IsSome, IfSome, append-nil, replicate, is_some}
 use Rattle.std.specs.List.{sum_by, count_by}
 use Rattle.std.proofs.lemmas.List.{get_or_default}
 use Rattle.std.proofs.lemmas.List.Sums.{sum_by-cons}
 use Rattle.slab.specs.Slab.{Slab, get, slab_len}
 use Rattle.index_list.specs.declared.nodes.Node.{Node}
 use Rattle.index_list.specs.declared.nodes.Ends.{Ends}
-use Rattle.index_list.specs.Many.{first_of, last_of, has, before, without, after_of, item_of, list_at, IsPlaced}
+use Rattle.index_list.specs.Many.{first_of, last_of, has, before, without, after_of, item_of, list_at}
 use Rattle.index_list.specs.Linked.{IsChain, IsLinked, IsSound, Inserted, Removed, IsBeside, walked, ends_at, first_set, last_set}
-use Rattle.index_list.proofs.Chains.{some_inj, SplitAt}
-use Rattle.index_list.proofs.Ties.{seen, found, Found, inserted, removed, last_there_is, beside, nowhere, before_all, without_all, there}
+use Rattle.index_list.proofs.Chains.{some_inj}
+use Rattle.index_list.proofs.Ties.{seen, found, Found, inserted, removed, last_there_is, beside, before_all, without_all}
 
 abbrev pub none : {T : Type 0} → List (ℕ × T)
 none = []

@@ -1,41 +1,5 @@
 -- One list, and the nodes that it leads through.
-use Rattle.std.proofs.Common.{
-  ◌≡◌,
-  ◌≢◌,
-  ◌<◌,
-  ◌≤◌,
-  ◌+◌,
-  ℕ,
-  zero,
-  suc,
-  Bool,
-  true,
-  false,
-  ◌||◌,
-  cond,
-  List,
-  [],
-  ◌∷◌,
-  ◌++◌,
-  length,
-  Option,
-  None,
-  Some,
-  nat_eq,
-  refl,
-  sym,
-  ap,
-  ◌∙◌,
-  subst,
-  inl,
-  inr,
-  ◌⊎◌,
-  arith,
-  map,
-  get_or,
-  set,
-  IsSome,
-}
+use Rattle.std.proofs.Common.{◌≡◌, ◌≢◌, ◌≤◌, ℕ, zero, suc, Bool, true, false, ◌||◌, List, [], ◌∷◌, ◌++◌, length, Option, None, Some, nat_eq, refl, sym, ap, ◌∙◌, subst, inl, inr, ◌⊎◌, arith}
 use Rattle.std.proofs.lemmas.Bool.Decides.{nat_tests}
 use Rattle.index_list.specs.declared.nodes.Node.{Node}
 use Rattle.index_list.specs.Many.{first_of, last_of, has, before, without, after_of, item_of}

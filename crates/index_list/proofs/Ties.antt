@@ -1,92 +1,14 @@
 -- The lists together.
-use Rattle.std.proofs.Common.{
-  ◌≡◌,
-  ◌≢◌,
-  ◌<◌,
-  ◌≤◌,
-  ◌+◌,
-  ℕ,
-  zero,
-  suc,
-  Bool,
-  true,
-  false,
-  List,
-  [],
-  ◌∷◌,
-  ◌++◌,
-  length,
-  Option,
-  None,
-  Some,
-  refl,
-  sym,
-  ap,
-  ◌∙◌,
-  subst,
-  inl,
-  inr,
-  ◌⊎◌,
-  arith,
-  map,
-  get_or,
-  set,
-  IsSome,
-  IfSome,
-  slice_set,
-  slice_index_or,
-  length-append,
-}
-use Rattle.std.specs.List.{sum_by}
-use Rattle.std.proofs.lemmas.List.{get_or-set_same, get_or-set_other, ext_get_or, get_or_default, get_or_past, length-map, get_or-map}
+use Rattle.std.proofs.Common.{◌≡◌, ◌≢◌, ◌<◌, ◌≤◌, ◌+◌, ℕ, zero, suc, true, false, List, [], ◌∷◌, ◌++◌, length, Option, None, Some, refl, sym, ap, ◌∙◌, subst, inl, inr, ◌⊎◌, arith, map, set, IsSome, IfSome, length-append}
+use Rattle.std.proofs.lemmas.List.{get_or-set_same, get_or-set_other, ext_get_or, get_or_past, length-map, get_or-map}
 use Rattle.std.proofs.Math.ListN.{length-set}
 use Rattle.std.proofs.lemmas.List.Sums.{sum_by-set, get_or-le-sum_by}
 use Rattle.slab.specs.Slab.{Slab, get, slab_len}
 use Rattle.index_list.specs.declared.nodes.Node.{Node}
 use Rattle.index_list.specs.declared.nodes.Ends.{Ends}
-use Rattle.index_list.specs.Many.{first_of, last_of, has, before, without, after_of, item_of, list_at, IsPlaced}
-use Rattle.index_list.specs.Linked.{
-  IsChain,
-  IsLinked,
-  IsSound,
-  Inserted,
-  Removed,
-  IsBeside,
-  with_next,
-  with_prev,
-  walk,
-  walked,
-  ends_at,
-  first_set,
-  last_set,
-}
-use Rattle.index_list.proofs.Chains.{
-  clash,
-  some_inj,
-  nat_cases,
-  first_in,
-  last_none_in,
-  last_some,
-  last_append,
-  has_no,
-  has_not,
-  has_later,
-  has_append,
-  absent,
-  absent_append,
-  node_of,
-  kept,
-  behind,
-  apart,
-  back,
-  front,
-  walk_chain,
-  SplitAt,
-  split_at,
-  before_absent,
-  without_absent,
-  has_either,
-}
+use Rattle.index_list.specs.Many.{first_of, last_of, has, before, without, list_at}
+use Rattle.index_list.specs.Linked.{IsChain, IsLinked, Inserted, Removed, IsBeside, walk, walked, ends_at, first_set, last_set}
+use Rattle.index_list.proofs.Chains.{clash, some_inj, nat_cases, first_in, last_none_in, last_some, last_append, has_no, has_not, has_later, has_append, absent, node_of, kept, behind, apart, back, front, walk_chain, SplitAt, split_at, before_absent, without_absent, has_either}
 
 -- the end that a list keeps or gets
 abbrev pub pick : Option ℕ → Option ℕ → Option ℕ → Option ℕ

@@ -1,26 +1,5 @@
 -- How the lists lie in a slab.
-use Rattle.std.specs.Prelude.{
-  ◌≡◌,
-  ◌≢◌,
-  ℕ,
-  zero,
-  suc,
-  ◌<◌,
-  Bool,
-  true,
-  false,
-  List,
-  [],
-  ◌∷◌,
-  Option,
-  None,
-  Some,
-  length,
-  map,
-  slice_index_or,
-  slice_set,
-  IsSome,
-}
+use Rattle.std.specs.Prelude.{◌≡◌, ◌≢◌, ℕ, zero, suc, ◌<◌, false, List, [], ◌∷◌, Option, None, Some, length, map, slice_index_or, slice_set, IsSome}
 use Rattle.std.specs.List.{sum_by}
 use Rattle.slab.specs.Slab.{Slab, get, slab_len}
 use Rattle.index_list.specs.Many.{first_of, last_of, has, list_at}

@@ -1,23 +1,7 @@
-use Rattle.std.proofs.Common.{◌≡◌, refl, sym, ap, ◌∙◌, subst, arith, set, map, ◌++◌, ◌∷◌, [], length, ℕ, replicate, None, Some}
+use Rattle.std.proofs.Common.{sym, ap, ◌∙◌}
 use Rattle.std.specs.Option.{option_copied}
-use Rattle.index_list.specs.Many.{Many, list_at, before, without}
-use Rattle.index_list.specs.Linked.{IsSound}
-use Rattle.index_list.proofs.Ties.{seen, nowhere, there}
-use Rattle.index_list.proofs.Calls.{
-  shown,
-  tip,
-  last_node,
-  pushed,
-  no_node,
-  list_within,
-  prev_node,
-  both_beside,
-  put_before,
-  taken,
-  next_is,
-  item_is,
-  bare,
-}
+use Rattle.index_list.specs.Many.{Many}
+use Rattle.index_list.proofs.Calls.{shown, no_node, item_is}
 use Rattle.index_list.proofs.lists.Lists.get.Goals as goal
 
 pub unreachable-requires : goal.unreachable-requires
