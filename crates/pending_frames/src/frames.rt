@@ -6,7 +6,7 @@ ghost use Rattle.pending_frames.specs.Pending.{none_waiting, frame_of, without_r
 use crate::entry::Entry;
 use crate::walks::{empty, place_of};
 use can_frame::Frame;
-use index_list::lists::Lists;
+use index_list::Lists;
 use std::alloc::{AllocError, Global};
 use std::marker::Model;
 

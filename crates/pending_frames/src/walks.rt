@@ -4,7 +4,7 @@ ghost use Rattle.index_list.specs.Many.{list_at};
 ghost use Rattle.pending_frames.specs.Kept.{Placed, Among, IsKept, IsThere};
 
 use crate::entry::Entry;
-use index_list::lists::Lists;
+use index_list::Lists;
 
 /// The place of the request with this number in the list of a node, if there is one.
 pub(crate) fn place_of(lists: &Lists<Entry>, node: u32, number: u64) -> Option<usize>
