@@ -32,8 +32,8 @@ fn push_event(
     push_lines(alloc, text, lines.as_slice())
 }
 
-// Its events up to the budget.
-fn push_events(
+/// Its events up to the budget.
+pub(crate) fn push_events(
     alloc: Global,
     text: &mut Vec<u8>,
     world: &mut World<ListEcu>,

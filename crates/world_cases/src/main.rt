@@ -5,6 +5,7 @@
 mod events;
 mod logs;
 mod replies;
+mod saved;
 mod three_nodes;
 mod units;
 
@@ -20,6 +21,7 @@ impl Answers for WorldCases {
         match call {
             "opens" => events::opens(alloc, rest),
             "log" => logs::log(alloc, rest),
+            "saved" => saved::saved(alloc, rest),
             _ => Err(Unanswered::Unknown),
         }
     }
